@@ -1,7 +1,6 @@
-ghost use Rattle.std.specs.Prelude.{◌≡◌, ℕ, ◌+◌, ◌*◌, ◌≤◌, List, [], ◌∷◌, length};
-ghost use Rattle.sem_msg.specs.declared.entry.Entry.{Entry};
-ghost use Rattle.sem_msg.specs.Setup.{Setup, IsSetup, call_count, kill_count};
-ghost use Rattle.sem_machine.specs.Schedules.{IsSchedule, world_after};
+ghost use Rattle.std.specs.Prelude.{◌≡◌, ◌+◌, ◌*◌, ◌≤◌, [], ◌∷◌, length};
+ghost use Rattle.sem_msg.specs.Setup.{IsSetup, call_count, kill_count};
+ghost use Rattle.sem_machine.specs.Schedules.{Always, IsSchedule, world_after};
 ghost use Rattle.sem_machine.specs.Living.{IsQuiet};
 ghost use Rattle.sem_machine.specs.Seeded.{entry_bound, entry_limit};
 ghost use Rattle.sem_bound.specs.Counts.{calls_made, kills_made};
@@ -13,26 +12,19 @@ ghost use Rattle.sem_bound.specs.EachCost.{each_cost, each_cost_journal};
 /// kind, and one for each of its kills. So it has no more than all calls and kills of the setup can
 /// bring.
 pub fn costs_bounded()
-    ensures journal { (T : Setup) → IsSetup T → (J : List Entry) → IsSchedule T J →
-        length J ≤ costs_made T J + kills_made J }
-    ensures setup { (T : Setup) → IsSetup T → (J : List Entry) → IsSchedule T J →
-        length J ≤ costs_declared T + kill_count T }
+    ensures journal { Always (λ T J. length J ≤ costs_made T J + kills_made J) }
+    ensures setup { Always (λ T J. length J ≤ costs_declared T + kill_count T) }
 {}
 
 /// Every schedule of every setup has at most 21 entries for each of its calls and one for each of
 /// its kills. So it has no more than a run can have, and after that many entries nothing is
 /// enabled.
 pub fn bounded()
-    ensures bound { (T : Setup) → IsSetup T → (J : List Entry) → IsSchedule T J →
-        length J ≤ 21 * calls_made J + kills_made J }
-    ensures entries { (T : Setup) → IsSetup T → (J : List Entry) → IsSchedule T J →
-        length J ≤ entry_bound J }
-    ensures setup { (T : Setup) → IsSetup T → (J : List Entry) → IsSchedule T J →
-        length J ≤ 21 * call_count T + kill_count T }
-    ensures limit { (T : Setup) → IsSetup T → (J : List Entry) → IsSchedule T J →
-        length J ≤ entry_limit T }
-    ensures spent { (T : Setup) → IsSetup T → (J : List Entry) → IsSchedule T J →
-        entry_limit T ≤ length J → IsQuiet T (world_after T J) }
+    ensures bound { Always (λ T J. length J ≤ 21 * calls_made J + kills_made J) }
+    ensures entries { Always (λ T J. length J ≤ entry_bound J) }
+    ensures setup { Always (λ T J. length J ≤ 21 * call_count T + kill_count T) }
+    ensures limit { Always (λ T J. length J ≤ entry_limit T) }
+    ensures spent { Always (λ T J. entry_limit T ≤ length J → IsQuiet T (world_after T J)) }
 {}
 
 /// The bound is reached: a delegate across kernels, with the ends of both VPEs, makes 23 entries.

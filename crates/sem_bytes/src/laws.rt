@@ -3,7 +3,7 @@
 ghost use Rattle.std.specs.Prelude.{◌≡◌, ◌++◌, ◌∷◌, List, Contains, Some, take};
 ghost use Rattle.sem_msg.specs.declared.entry.Entry.{Entry};
 ghost use Rattle.sem_msg.specs.Setup.{Setup, IsSetup};
-ghost use Rattle.sem_machine.specs.Schedules.{IsSchedule, world_after};
+ghost use Rattle.sem_machine.specs.Schedules.{Always, IsSchedule, world_after};
 ghost use Rattle.sem_access.specs.declared.access.Access.{Access as AccessData};
 ghost use Rattle.sem_access.specs.Accesses.{accesses, access_of};
 ghost use Rattle.sem_access.specs.ContentsText.{contents};
@@ -15,8 +15,7 @@ ghost use Rattle.sem_bytes.specs.Sample.{sample, sample_journal, sample_accesses
 /// the access's key, which is not being revoked. The access lies in the memory of every key from
 /// there down to a root, and no answered call has cut any of these keys off.
 pub fn bytes_owned()
-    ensures owned { (T : Setup) → IsSetup T → (J : List Entry) → IsSchedule T J
-        → AccessesAreOwned T J }
+    ensures owned { Always AccessesAreOwned }
 {}
 
 /// Each access of a journal is that of the entry at its place, in the world before it.

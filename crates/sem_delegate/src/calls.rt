@@ -12,7 +12,7 @@ ghost use Rattle.sem_machine.specs.Stores.{with_caps};
 ghost use Rattle.sem_delegate.specs.Delegating.{IsOfKind, offering, owning};
 
 use crate::messages::request;
-use crate::refusals::{delegate_refusal, own_cap};
+use crate::refusals::delegate_refusal;
 use sem_caps::Caps;
 use sem_key::Cap;
 use sem_msg::{Ask, Code, Outboxes, Outcome, Parked, Setup};
@@ -55,7 +55,7 @@ pub fn delegate_call(
     if let Some(code) = delegate_refusal(setup, kernel, vpe, src, other, caps, vpes) {
         return Outcome::answered(code);
     }
-    let Some(cap) = own_cap(caps, vpes, vpe, src) else {
+    let Some(cap) = vpes.held_key(vpe, src).and_then(|key| caps.get(key)) else {
         return Outcome::answered(Code::NoCap);
     };
     make_offer(setup, kernel, vpe, other, dst, cap, vpes, park, outs);

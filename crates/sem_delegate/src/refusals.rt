@@ -1,9 +1,7 @@
-ghost use Rattle.std.specs.Prelude.{◌≡◌, ◌++◌, option_copied};
-ghost use Rattle.std.specs.Option.{option_map};
-ghost use Rattle.sem_key.specs.Capability.{capability_of};
+ghost use Rattle.std.specs.Prelude.{◌≡◌, ◌++◌};
 ghost use Rattle.sem_key.specs.CapList.{cap_of};
 ghost use Rattle.sem_vpe.specs.VpeTable.{AreOurs, IsOurs};
-ghost use Rattle.sem_machine.specs.Sides.{no_side, own};
+ghost use Rattle.sem_machine.specs.Sides.{no_side};
 ghost use Rattle.sem_machine.specs.Steps.{first_code};
 ghost use Rattle.sem_machine.specs.Calls.{delegate_tests, destination_tests};
 ghost use Rattle.sem_machine.specs.Stores.{with_vpes};
@@ -11,22 +9,9 @@ ghost use Rattle.sem_machine.specs.Upcalls.{parent_tests};
 ghost use Rattle.sem_delegate.specs.Delegating.{owning};
 
 use sem_caps::Caps;
-use sem_key::{Cap, Key, Object};
-use sem_msg::{Code, Setup, Slot};
+use sem_key::{Key, Object};
+use sem_msg::{Code, Setup};
 use sem_vpe::Vpes;
-
-// The capability at a selector of the VPE; none if the selector holds none. The VPE must be of this
-// kernel.
-pub fn own_cap<'a>(caps: &'a Caps, vpes: &Vpes, vpe: u16, sel: u8) -> Option<&'a Cap>
-    requires { IsOurs vpes.now vpe }
-    ensures { option_map capability_of (option_copied result)
-        ≡ own (owning caps.now vpes.now no_side) vpe sel }
-{
-    match vpes.selector(vpe, sel) {
-        Slot::Held(key) => caps.get(key),
-        Slot::Free | Slot::Promised => None,
-    }
-}
 
 // Why the VPE can't delegate the capability at `src` to the other one.
 pub fn delegate_refusal(
@@ -49,7 +34,7 @@ pub fn delegate_refusal(
     if !setup.is_declared(other) {
         return Some(Code::NoVpe);
     }
-    let Some(cap) = own_cap(caps, vpes, vpe, src) else {
+    let Some(cap) = vpes.held_key(vpe, src).and_then(|key| caps.get(key)) else {
         return Some(Code::NoCap);
     };
     if cap.mark.is_some() {

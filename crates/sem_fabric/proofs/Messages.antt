@@ -7,7 +7,7 @@ use Rattle.std.proofs.lemmas.List.Elements.{All-push}
 use Rattle.sem_msg.specs.declared.message.Message.{Message}
 use Rattle.sem_msg.specs.Message.{Fits}
 use Rattle.sem_wire.specs.Records.{record_of}
-use Rattle.sem_wire.specs.Standing.{message_of, IsRecord}
+use Rattle.sem_wire.specs.MessageOfBytes.{message_of, IsRecord}
 use Rattle.circular_buffer.specs.Buffer.{Buffer, buffer}
 use Rattle.sem_fabric.specs.Links.{relined}
 use Rattle.sem_wire.proofs.Records.{message_of_record, record_is}

@@ -1,7 +1,7 @@
 ghost use Rattle.std.specs.Prelude.{◌≡◌, ◌↔◌, ◌<◌, ◌≤◌, [], ◌∷◌, ◌++◌, length, drop, nat_le};
 ghost use Rattle.std.specs.Prelude.{slice_get, Some, IsOk, IfOk, IfErr, IfSome, OnOk};
 ghost use Rattle.sem_msg.specs.Message.{Fits};
-ghost use Rattle.sem_wire.specs.Standing.{message_of as message_of_lem, IsRecord};
+ghost use Rattle.sem_wire.specs.MessageOfBytes.{message_of as message_of_lem, IsRecord};
 ghost use Rattle.sem_fabric.specs.Links.{relined};
 
 use circular_buffer::HeapCircularBuffer;
@@ -19,7 +19,7 @@ pub struct Link {
 
 impl Model for Link {
     ghost use Rattle.std.specs.Prelude.{map, All};
-    ghost use Rattle.sem_wire.specs.Standing.{message_of, IsRecord};
+    ghost use Rattle.sem_wire.specs.MessageOfBytes.{message_of, IsRecord};
     ghost use Rattle.sem_fabric.specs.Links.{LinkList};
 
     ghost Value = { LinkList };

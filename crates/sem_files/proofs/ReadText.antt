@@ -15,11 +15,11 @@ use Rattle.sem_trace.specs.declared.fault.TraceError.TheVariants.{Refused, Memor
 use Rattle.sem_trace.specs.TextLines.{lines_of, words_of, is_significant, significant}
 use Rattle.sem_trace.specs.Earlier.{first_some}
 use Rattle.sem_trace.specs.Refusal.{numbers}
-use Rattle.sem_trace.specs.Standing.{IsWhy}
+use Rattle.sem_trace.specs.SetupOfText.{IsWhy}
 use Rattle.sem_files.specs.Files.{Files}
 use Rattle.sem_files.specs.Said.{said, is_ended}
 use Rattle.sem_files.specs.FileRefusal.{line_fault, fault_at, first_fault, kernels_of, said_by, end_fault, refusal}
-use Rattle.sem_files.specs.Standing.{FilesStand}
+use Rattle.sem_files.specs.FilesOfText.{FilesStand}
 use Rattle.sem_files.specs.declared.reader.Stage.{Stage}
 use Rattle.sem_files.specs.declared.reader.Stage.TheVariants.{Start, Named, Open, Ended}
 use Rattle.sem_trace.specs.declared.line_error.LineError.{LineError}

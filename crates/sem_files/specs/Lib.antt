@@ -4,7 +4,7 @@ pub mod FileForms
 pub mod Said
 pub mod FileContext
 pub mod FileRefusal
-pub mod Standing
+pub mod FilesOfText
 pub mod Handles
 pub mod FileReads
 pub mod OneMore

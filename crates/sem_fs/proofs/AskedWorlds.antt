@@ -26,7 +26,7 @@ use Rattle.sem_sound.proofs.Named.{kernel-decl}
 use Rattle.sem_revoke.proofs.Serving.{enabled-call}
 use Rattle.sem_files.specs.Compiled.{SERVER}
 use Rattle.sem_fs.specs.Service.{IsService}
-use Rattle.sem_fs.specs.Serving.{IsServed, IsAskBy, IsMessageBy, IsSideBy, IsWorldBy, IsServedWorld}
+use Rattle.sem_fs.specs.Serving.{MayBeAskedFor, IsAskBy, IsMessageBy, IsSideBy, IsWorldBy, IsServedWorld}
 use Rattle.sem_fs.specs.Holding.{home}
 use Rattle.sem_fs.specs.Going.{AllHold}
 use Rattle.sem_fs.specs.Drawings.{IsDrawnBy}
@@ -40,14 +40,14 @@ use Rattle.sem_fs.proofs.AskedCalls.{drew}
 
 -- the place asks for the target: a call that does drew its number
 pub record IsAskedFor (T : Setup) (J : List Entry) (place : PlaceName) (target : Target) : Type 0 where
-  pub served : IsServed T target
+  pub served : MayBeAskedFor T target
   pub index : ℕ
   pub drawn : IsDrawnBy T J place.vpe place.number index
   pub call : Call
   pub at_index : slice_get (calls_of T place.vpe) index ≡ Some call
   pub asks : AsksFor call target
 
-pub asked-serves : (T : Setup) (J : List Entry) (place : PlaceName) (target : Target) → IsAskedFor T J place target → IsServed T target
+pub asked-serves : (T : Setup) (J : List Entry) (place : PlaceName) (target : Target) → IsAskedFor T J place target → MayBeAskedFor T target
 asked-serves T J place target x = x.served
 
 -- A world in which more may be asked for.
@@ -128,7 +128,7 @@ module _ (T : Setup) (S : IsService T) (J : List Entry) (e : Entry) (runs' : IsS
             x.asks;
       }
 
-  call-asks : (v : ℕ) → e.event.act ≡ Calls v → (c : Call) → next_call T here v ≡ Some c → (target : Target) → IsServed T target → AsksFor c target
+  call-asks : (v : ℕ) → e.event.act ≡ Calls v → (c : Call) → next_call T here v ≡ Some c → (target : Target) → MayBeAskedFor T target → AsksFor c target
       → IsAskedFor T J' (next_place T (call_counted v here) v) target
   call-asks v act c next target so asks =
       record {

@@ -41,7 +41,7 @@ use Rattle.sem_machine.specs.Machine.{next_call, local_step}
 use Rattle.sem_machine.proofs.FirstCodes.{unless-keeps}
 use Rattle.sem_machine.proofs.Folds.{option-keeps}
 use Rattle.sem_safety.proofs.Skeleton.{decided-by, handled-by}
-use Rattle.sem_fs.specs.Service.{IsInOrder}
+use Rattle.sem_fs.specs.Service.{MayComeNext}
 use Rattle.sem_fs.proofs.Unbinding.{IsKeptByNone, IsBoundTo, Fate, stays, revoked-fate, requested-fate, done-fate}
 
 module _ (v ep : ℕ) (k : KeyName) (T : Setup) (i : ℕ) (s : Side) (is : IsBoundTo v ep k s) (unkept : IsKeptByNone k s) where
@@ -87,7 +87,7 @@ module _ (v ep : ℕ) (k : KeyName) (T : Setup) (i : ℕ) (s : Side) (is : IsBou
   held-fate : (o : Option Capability) (f : Capability → Step) (t : Side) → t.endpoints ≡ s.endpoints → ((c : Capability) → On (f c)) → On (with_held o f t)
   held-fate o f t equal each = option-keeps On f o (answer NoCap t) (λ c held. each c) (same t equal)
 
-  call-fate : (u : ℕ) (before : List Call) (c : Call) (t : Side) → (u ≡ v → ⊥) → IsInOrder T u before c → t.endpoints ≡ s.endpoints → t.jobs ≡ s.jobs
+  call-fate : (u : ℕ) (before : List Call) (c : Call) (t : Side) → (u ≡ v → ⊥) → MayComeNext T u before c → t.endpoints ≡ s.endpoints → t.jobs ≡ s.jobs
       → On (call_row T i t u c)
   unfolding call_row
   call-fate u before (OpenSession dst name) t other so equal jobs = unless-keeps On (open_tests T i t u dst name) _ _ (λ code. same t equal)
@@ -210,7 +210,7 @@ module _ (v ep : ℕ) (k : KeyName) (T : Setup) (i : ℕ) (s : Side) (is : IsBou
 
   -- A step in which the VPE does not call.
   pub step-fate : (a : Act) (input : Option Message) →
-      ((u : ℕ) (c : Call) → a ≡ Calls u → next_call T s u ≡ Some c → (before : List Call) × IsInOrder T u before c)
+      ((u : ℕ) (c : Call) → a ≡ Calls u → next_call T s u ≡ Some c → (before : List Call) × MayComeNext T u before c)
       → (a ≡ Calls v → ⊥) → ((u : ℕ) → a ≡ Kill u → ⊥) → On (local_step T i s a input)
   unfolding local_step
   step-fate (Calls u) input order silent living = elim (cases_eq u v) [

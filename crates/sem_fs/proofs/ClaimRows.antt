@@ -53,7 +53,7 @@ use Rattle.sem_machine.proofs.Weighing.{weigh-among}
 use Rattle.sem_safety.proofs.Skeleton.{decided-by, handled-by}
 use Rattle.sem_revoke.proofs.Growing.{is_plain}
 use Rattle.sem_revoke.proofs.Steady.{IsSteady, revoked-steady, requested-steady, done-steady}
-use Rattle.sem_fs.specs.Service.{GIVEN, gives_where, IsInOrder, is_ask}
+use Rattle.sem_fs.specs.Service.{GIVEN, gives_where, MayComeNext, is_ask}
 use Rattle.sem_files.specs.Compiled.{SESSION}
 use Rattle.sem_fs.specs.Serving.{IsServedAsk, IsServedSide}
 use Rattle.sem_fs.proofs.ServedSteps.{ask-among}
@@ -307,7 +307,7 @@ module _ (T : Setup) (w0 : ℕ) (m : ℕ → Bool) (k : ℕ) (h : VpeRow → ℕ
   held-so : (n : ℕ) (o : Option Capability) (f : Capability → Step) (t : Side) → Below n t → ((c : Capability) → On n (f c)) → On n (with_held o f t)
   held-so n o f t is each = option-keeps (On n) f o (answer NoCap t) (λ c held. each c) is
 
-  pub call-so : (n i u : ℕ) (before : List Call) (c : Call) (t : Side) → IsInOrder T u before c
+  pub call-so : (n i u : ℕ) (before : List Call) (c : Call) (t : Side) → MayComeNext T u before c
       → weight t + (bit (gives_where w0 m c) + pay u (if is_ask c then k else 0)) ≤ n → On n (call_row T i t u c)
   unfolding call_row
   call-so n i u before (OpenSession dst name) t so room = let still = at-most (weight t)

@@ -28,7 +28,7 @@ use Rattle.sem_sound.proofs.Scheduling.{schedule-sound}
 use Rattle.sem_files.specs.Compiled.{SERVER}
 use Rattle.sem_fs.specs.Service.{GIVEN, IsService, any, is_ask, draws, gives, numbers_wanted, times_given}
 use Rattle.sem_fs.specs.Holding.{home}
-use Rattle.sem_fs.specs.Supplies.{HasRoom, HasRooms}
+use Rattle.sem_fs.specs.Supplies.{ClientHasRoom, HasRooms}
 use Rattle.sem_fs.specs.Going.{IsGoing}
 use Rattle.sem_fs.proofs.Lifting.{world-next}
 use Rattle.sem_fs.proofs.Sparing.{lives}
@@ -143,7 +143,7 @@ module _ (T : Setup) (S : IsService T) where
   fit-rooms J runs I F = record { given = given'; numbers = numbers' }
     where
       given' : (u : ℕ) (d : VpeDecl) (parent : KeyName) (object : Object) (sel : ℕ) → decl T u ≡ Some d
-          → slice_get (row (home T (world_after T J) u) u).asks 0 ≡ Some (DelegateAsk parent object sel) → HasRoom T (world_after T J) u parent object sel
+          → slice_get (row (home T (world_after T J) u) u).asks 0 ≡ Some (DelegateAsk parent object sel) → ClientHasRoom T (world_after T J) u parent object sel
       given' u d parent object sel at head =
           let i : ℕ = kernel_of T u in
           let W : World = world_after T J in

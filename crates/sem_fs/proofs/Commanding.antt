@@ -18,7 +18,7 @@ use Rattle.sem_msg.specs.Lookups.{is_declared, offered}
 use Rattle.sem_files.specs.Files.{Files, EXTENT, is_file, is_client, extents_of}
 use Rattle.sem_files.specs.Compiled.{SERVER, SESSION, ACCESS, extent_number, extent_root, opened_at, given_at, part_begin, part_end, part_accessed, greater}
 use Rattle.sem_files.specs.Compiled.{less, rising_clients, extents, root_of_extent, offer_of_extent, service_key, server, client, compiled, AreFiles}
-use Rattle.sem_fs.specs.Service.{GIVEN, holds, holds_after, IsExtent, IsInOrder}
+use Rattle.sem_fs.specs.Service.{GIVEN, holds, holds_after, IsExtent, MayComeNext}
 use Rattle.sem_fs.proofs.Rising.{Less, pairs-head, pairs-tail, declared-client, extent-in, extent-near}
 use Rattle.sem_fs.proofs.CompiledSetups.{vpes-are, server-declared}
 
@@ -26,7 +26,7 @@ use Rattle.sem_fs.proofs.CompiledSetups.{vpes-are, server-declared}
 
 -- a call may be made behind others, and its numbers are what they may be
 abbrev pub Goes : Setup → ℕ → List Call → Call → Type 0
-Goes T v made c = IsInOrder T v made c × IsValidCall 64 c
+Goes T v made c = MayComeNext T v made c × IsValidCall 64 c
 
 pub AllGo : Setup → ℕ → List Call → List Call → Type 0
 AllGo T v made [] = Unit {0}
@@ -46,11 +46,11 @@ module _ (T : Setup) (v : ℕ) where
   go-append made [] ys one two = subst (λ zs. AllGo T v zs ys) (append-nil made) two
   go-append made (c ∷ xs) ys one two = (one.0, go-append (made ++ c ∷ []) xs ys one.1 (subst (λ zs. AllGo T v zs ys) (sym (append_assoc made (c ∷ []) xs)) two))
 
-  pub each-goes : (made cs : List Call) → AllGo T v made cs → (n : ℕ) (c : Call) → slice_get cs n ≡ Some c → IsInOrder T v (made ++ take n cs) c
+  pub each-goes : (made cs : List Call) → AllGo T v made cs → (n : ℕ) (c : Call) → slice_get cs n ≡ Some c → MayComeNext T v (made ++ take n cs) c
   unfolding AllGo
   each-goes made [] all n c none = absurd cc
-  each-goes made (x ∷ cs) all zero c some = subst (λ zs. IsInOrder T v zs c) (sym (append-nil made)) (subst (IsInOrder T v made) (cc some) all.0.0)
-  each-goes made (x ∷ cs) all (suc n) c some = subst (λ zs. IsInOrder T v zs c) (append_assoc made (x ∷ []) (take n cs))
+  each-goes made (x ∷ cs) all zero c some = subst (λ zs. MayComeNext T v zs c) (sym (append-nil made)) (subst (MayComeNext T v made) (cc some) all.0.0)
+  each-goes made (x ∷ cs) all (suc n) c some = subst (λ zs. MayComeNext T v zs c) (append_assoc made (x ∷ []) (take n cs))
       (each-goes (made ++ x ∷ []) cs all.1 n c some)
 
   pub all-valid : (made cs : List Call) → AllGo T v made cs → All (IsValidCall 64) cs

@@ -16,7 +16,7 @@ use Rattle.sem_safety.proofs.LiveWorlds.{sum-of_map}
 use Rattle.sem_files.specs.declared.files.Command.{Command}
 use Rattle.sem_files.specs.Files.{Files, open_count}
 use Rattle.sem_files.specs.Compiled.{SERVER, SESSION, rising_clients, server, client, calls_from, client_calls, compiled, AreFiles}
-use Rattle.sem_fs.specs.Service.{GIVEN, IsInOrder, gives_where, gives, is_ask, any, numbers_wanted, times_given, IsService}
+use Rattle.sem_fs.specs.Service.{GIVEN, MayComeNext, gives_where, gives, is_ask, any, numbers_wanted, times_given, IsService}
 use Rattle.sem_fs.proofs.ClaimStarts.{sum-le-among}
 use Rattle.sem_fs.proofs.Rising.{clients-rise}
 use Rattle.sem_fs.proofs.CompiledSetups.{vpes-are, server-declared, server-rests-so, service-served, nothing-denied, nobody-killed, calls-cases}
@@ -141,10 +141,10 @@ module _ (F : Files) (AF : AreFiles F) where
         sums : (a b c d e f : ℕ) → a ≡ b + c → b ≤ d → d + e ≤ f → f ≤ 64 → c ≤ 4001 → a ≤ 4096
         sums a b c d e f one two three four five = omega (arith, one, two, three, four, five)
 
-  in-order : (v n : ℕ) (c : Call) → slice_get (calls_of (compiled F) v) n ≡ Some c → IsInOrder (compiled F) v (take n (calls_of (compiled F) v)) c
+  in-order : (v n : ℕ) (c : Call) → slice_get (calls_of (compiled F) v) n ≡ Some c → MayComeNext (compiled F) v (take n (calls_of (compiled F) v)) c
   in-order v n c some = elim (calls-cases F v) [
     | inl none ↦ absurd (nothing (calls_of (compiled F) v) none some)
-    | inr (among, is) ↦ subst (λ cs. IsInOrder (compiled F) v (take n cs) c) (sym is) (client-ordered F AF v n c (sym (ap (λ cs. slice_get cs n) is) ∙ some))
+    | inr (among, is) ↦ subst (λ cs. MayComeNext (compiled F) v (take n cs) c) (sym is) (client-ordered F AF v n c (sym (ap (λ cs. slice_get cs n) is) ∙ some))
   ]
     where
       nothing : (cs : List Call) → cs ≡ [] → slice_get cs n ≡ Some c → ⊥

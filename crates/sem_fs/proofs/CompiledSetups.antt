@@ -29,7 +29,7 @@ use Rattle.sem_safety.proofs.LiveWorlds.{sum-of_map}
 use Rattle.sem_files.specs.Files.{Files, is_client}
 use Rattle.sem_files.specs.Compiled.{SERVER, below, rising_clients, extents, service_root, root_of_extent, offer_of_extent, service_key, server, client}
 use Rattle.sem_files.specs.Compiled.{client_calls, owner_of_pe, compiled, AreFiles}
-use Rattle.sem_fs.specs.Service.{IsWhole}
+use Rattle.sem_fs.specs.Service.{IsWholeExtent}
 use Rattle.sem_fs.proofs.Rising.{all-of, clients-rise, client-near, declared-client, extents-rise, extent-near}
 
 module _ (F : Files) where
@@ -131,12 +131,12 @@ module _ (F : Files) where
   service-root = Contains-flat_map (λ (d : VpeDecl). root_keys_from d 0 d.roots) (compiled F).vpes (server F) service_key
       (subst (λ ds. Contains ds (server F)) (sym vpes-are) (Contains-head (server F) (map (client F) (rising_clients F)))) first-key
 
-  pub roots-whole : (d : VpeDecl) (r : Root) → Contains (compiled F).vpes d → Contains d.roots r → IsWhole r.object
+  pub roots-whole : (d : VpeDecl) (r : Root) → Contains (compiled F).vpes d → Contains d.roots r → IsWholeExtent r.object
   roots-whole d r among root = elim (vpe-cases d among) [
     | inr (v, there, same) ↦ absurd (Contains-nil r (subst (λ (x : VpeDecl). Contains x.roots r) (sym same) root))
     | inl same ↦ elim (Contains-cons_cases service_root (map root_of_extent (extents F)) r (subst (λ (x : VpeDecl). Contains x.roots r) (sym same) root)) [
-      | inl first ↦ subst (λ (x : Root). IsWhole x.object) first tt
-      | inr rest ↦ (let o = Contains-from_map root_of_extent (extents F) r rest in subst (λ (x : Root). IsWhole x.object) o.2 (refl, refl))
+      | inl first ↦ subst (λ (x : Root). IsWholeExtent x.object) first tt
+      | inr rest ↦ (let o = Contains-from_map root_of_extent (extents F) r rest in subst (λ (x : Root). IsWholeExtent x.object) o.2 (refl, refl))
     ]
   ]
 

@@ -52,7 +52,7 @@ use Rattle.sem_machine.proofs.Folds.{option-keeps}
 use Rattle.sem_safety.specs.Seen.{Seen}
 use Rattle.sem_safety.proofs.Updates.{seen-cap_added}
 use Rattle.sem_revoke.proofs.Waits.{parked-here}
-use Rattle.sem_fs.specs.Service.{IsInOrder}
+use Rattle.sem_fs.specs.Service.{MayComeNext}
 use Rattle.sem_fs.specs.Serving.{IsServedMessage, IsServedCall, IsServedSide}
 use Rattle.sem_fs.proofs.ServedRows.{IsReceived}
 use Rattle.sem_fs.proofs.ServedSteps.{passed-done, AskPasses, ActPasses}
@@ -139,7 +139,7 @@ module _ (T : Setup) (i v : ℕ) (home : kernel_of T v ≡ i) where
     held-stays : (o : Option Capability) (f : Capability → Step) (t : Side) → Stays t → ((c : Capability) → On (f c)) → On (with_held o f t)
     held-stays o f t S each = option-keeps On f o (answer NoCap t) (λ c held. each c) S
 
-    call-stays : (u : ℕ) (before : List Call) (c : Call) (t : Side) → (u ≡ v → ⊥) → IsInOrder T u before c → Stays t → On (call_row T i t u c)
+    call-stays : (u : ℕ) (before : List Call) (c : Call) (t : Side) → (u ≡ v → ⊥) → MayComeNext T u before c → Stays t → On (call_row T i t u c)
     unfolding call_row
     call-stays u before (OpenSession dst name) t other so S = unless-keeps On (open_tests T i t u dst name) _ _ (λ code. S)
         (option-keeps On (λ (y : Service). ask_made T i u dst (ServTarget y.key) t) (service_named T name) (answer NoService t)
@@ -556,7 +556,7 @@ module _ (T : Setup) (i v : ℕ) (home : kernel_of T v ≡ i) where
 
     -- A step in which v does not call.
     pub step-course : (a : Act) (input : Option Message) → is_alive s v ≡ true → ActPasses T i s a → ((u : ℕ) → a ≡ Resume u → can_resume (parked s u) ≡ true)
-        → ((u : ℕ) (c : Call) → a ≡ Calls u → next_call T s u ≡ Some c → (before : List Call) × IsInOrder T u before c) → (a ≡ Calls v → ⊥)
+        → ((u : ℕ) (c : Call) → a ≡ Calls u → next_call T s u ≡ Some c → (before : List Call) × MayComeNext T u before c) → (a ≡ Calls v → ⊥)
         → Course T s (local_step T i s a input).side v
     unfolding local_step
     step-course (Calls u) input alive passes can order silent = elim (cases_eq u v) [

@@ -34,7 +34,7 @@ use Rattle.sem_safety.proofs.CarryingWorlds.{stepped}
 use Rattle.sem_safety.proofs.Noted.{history-cut}
 use Rattle.sem_revoke.proofs.Lasting.{call-step}
 use Rattle.sem_revoke.proofs.Serving.{tells, fold-push}
-use Rattle.sem_fs.specs.Service.{IsService, IsInOrder}
+use Rattle.sem_fs.specs.Service.{IsService, MayComeNext}
 use Rattle.sem_fs.proofs.CallCuts.{CutsNone, act-cuts}
 
 -- the key that a call revokes, if it revokes one
@@ -46,7 +46,7 @@ module _ (T : Setup) (i u : ℕ) (s : Side) where
   none-cut : (x : Step) (k : KeyName) → CutsNone x → ◌≡◌ {A = Option KeyName} x.outcome.cut (Some k) → ⊥
   none-cut x k none some = let no' : ◌≡◌ {A = Option KeyName} None (Some k) = sym none ∙ some in absurd cc
 
-  call-revokes : (before : List Call) (c : Call) (k : KeyName) → IsInOrder T u before c → ◌≡◌ {A = Option KeyName} (call_row T i s u c).outcome.cut (Some k)
+  call-revokes : (before : List Call) (c : Call) (k : KeyName) → MayComeNext T u before c → ◌≡◌ {A = Option KeyName} (call_row T i s u c).outcome.cut (Some k)
       → Cuts s u c k
   unfolding call_row
   call-revokes before (OpenSession dst name) k so cut =

@@ -60,7 +60,7 @@ use Rattle.sem_revoke.proofs.Readying.{enabled-low}
 use Rattle.sem_revoke.proofs.Serving.{enabled-call}
 use Rattle.sem_files.specs.Compiled.{SERVER, service_key}
 use Rattle.sem_fs.specs.Service.{IsService}
-use Rattle.sem_fs.specs.Serving.{IsServed, IsServedAsk, IsServedCall, IsServedWorld}
+use Rattle.sem_fs.specs.Serving.{MayBeAskedFor, IsServedAsk, IsServedCall, IsServedWorld}
 use Rattle.sem_fs.specs.Holding.{home, IsGiven, Offers}
 use Rattle.sem_fs.specs.Supplies.{IsSupplied, IsServing}
 use Rattle.sem_fs.specs.Going.{AllHold}
@@ -134,7 +134,7 @@ module _ (T : Setup) (S : IsService T) (J : List Entry) (runs : IsSchedule T J) 
       same-number = ap (λ (r : VpeRow). r.next_number) (get_or-put_same no_vpe s.vpes u (record (row s u) { asks = drop 1 (row s u).asks }))
 
       -- what is asked of the server
-      source-passes : (target : Target) → u ≡ SERVER → IsServed T target → Passed (source_tests target (source T t u target))
+      source-passes : (target : Target) → u ≡ SERVER → MayBeAskedFor T target → Passed (source_tests target (source T t u target))
           × ((p : Capability) → source T t u target ≡ Some p → Contains (root_keys T) p.key × IsOffered target p.key)
       source-passes (SelTarget vpe sel) at is = absurd is
       source-passes (ServTarget service) at is =

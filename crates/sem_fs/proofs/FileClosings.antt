@@ -23,7 +23,7 @@ use Rattle.sem_files.specs.declared.files.Command.{Command}
 use Rattle.sem_files.specs.Files.{Files, EXTENT, extents_of, handle_of, open_after, is_about, open_file, file_of, is_opening, IsAct, IsCommand}
 use Rattle.sem_files.specs.Compiled.{SESSION, ACCESS, extent_number, opened_at, given_at, part_begin, part_end, part_accessed, below, calls_of_act}
 use Rattle.sem_files.specs.Compiled.{calls_of_command, calls_from, compiled, AreFiles}
-use Rattle.sem_fs.specs.Openings.{Opening, opening_command, IsKeyOf, Closing, IsClosed, calls_before, calls_before_closing}
+use Rattle.sem_fs.specs.Openings.{Opening, opening_command, IsKeyOfOpening, Closing, IsClosedOpening, calls_before, calls_before_closing}
 use Rattle.sem_fs.proofs.Rising.{in-range, few-extents, declared-client}
 use Rattle.sem_fs.proofs.CompiledServices.{is-service, client-calls-so}
 use Rattle.sem_fs.proofs.Commanding.{asks, revokes}
@@ -218,8 +218,8 @@ regroup : (A a1 a2 B r1 r2 rest : List Call) (s x y : Call) → s ∷ (A ++ ((a1
     ((a2 ++ (B ++ r1)) ++ y ∷ (r2 ++ rest))
 regroup A a1 a2 B r1 r2 rest s x y = simp append_assoc refl
 
-module _ (F : Files) (AF : AreFiles F) (J : List Entry) (runs : IsSchedule (compiled F) J) (o : Opening F) (X : IsClosed J o) (a : KeyName)
-    (K : IsKeyOf J o a) where
+module _ (F : Files) (AF : AreFiles F) (J : List Entry) (runs : IsSchedule (compiled F) J) (o : Opening F) (X : IsClosedOpening J o) (a : KeyName)
+    (K : IsKeyOfOpening J o a) where
   abbrev v : ℕ
   v = o.client
 
@@ -402,6 +402,6 @@ module _ (F : Files) (AF : AreFiles F) (J : List Entry) (runs : IsSchedule (comp
       (calls_before_closing X.closing + K.extent) closing-so a K.granted told
 
 -- Closed is gone.
-pub closed-gone : (F : Files) → AreFiles F → (J : List Entry) → IsSchedule (compiled F) J → (o : Opening F) → IsClosed J o → (a k : KeyName) → IsKeyOf J o a
+pub closed-gone : (F : Files) → AreFiles F → (J : List Entry) → IsSchedule (compiled F) J → (o : Opening F) → IsClosedOpening J o → (a k : KeyName) → IsKeyOfOpening J o a
     → Descends J a k → IsInUse (world_after (compiled F) J) k → ⊥
 closed-gone F AF J runs o X a k K below' used = all-gone (compiled F) (is-service F AF).setup J runs k a used below' (key-answered F AF J runs o X a K)

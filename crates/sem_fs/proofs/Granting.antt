@@ -56,7 +56,7 @@ use Rattle.sem_revoke.proofs.Asking.{asks-awaited}
 use Rattle.sem_revoke.proofs.Revoking.{more-grants, shown}
 use Rattle.sem_revoke.proofs.Serving.{tells}
 use Rattle.sem_files.specs.Compiled.{SERVER}
-use Rattle.sem_fs.specs.Service.{IsService, IsInOrder}
+use Rattle.sem_fs.specs.Service.{IsService, MayComeNext}
 use Rattle.sem_fs.specs.Serving.{IsServedWorld, IsWorldBy}
 use Rattle.sem_fs.specs.Openings.{IsGrantedTo, call_count}
 use Rattle.sem_fs.specs.Holding.{home}
@@ -149,7 +149,7 @@ given-suits (OfferTarget service index) p is = is
 abbrev GrantsNone : Step → Type 0
 GrantsNone x = ◌≡◌ {A = Option (KeyName × KeyName)} x.outcome.grant None
 
-call-grants : (T : Setup) (i u : ℕ) (s : Side) (before : List Call) (c : Call) → IsInOrder T u before c → GrantsNone (call_row T i s u c)
+call-grants : (T : Setup) (i u : ℕ) (s : Side) (before : List Call) (c : Call) → MayComeNext T u before c → GrantsNone (call_row T i s u c)
 unfolding call_row
 call-grants T i u s before (OpenSession dst name) so = unless-keeps GrantsNone (open_tests T i s u dst name) _ _ (λ code. refl)
     (option-keeps GrantsNone (λ (y : Service). ask_made T i u dst (ServTarget y.key) s) (service_named T name) (answer NoService s) (λ y there. refl) refl)

@@ -44,7 +44,7 @@ use Rattle.sem_revoke.proofs.Revoking.{enabled-parts, more-grants}
 use Rattle.sem_revoke.proofs.Serving.{tells, fold-push, enabled-call, enabled-resume}
 use Rattle.sem_sound.proofs.Scheduling.{schedule-sound}
 use Rattle.sem_files.specs.Compiled.{SERVER, SESSION}
-use Rattle.sem_fs.specs.Service.{GIVEN, IsService, IsInOrder, holds, holds_after}
+use Rattle.sem_fs.specs.Service.{GIVEN, IsService, MayComeNext, holds, holds_after}
 use Rattle.sem_fs.specs.Serving.{IsServedWorld}
 use Rattle.sem_fs.specs.Holding.{home, calls_made, IsGiven, Holds, Lacks, Awaits, Offers, IsHeldExtent, IsHolding}
 use Rattle.sem_fs.proofs.Unending.{entered}
@@ -94,7 +94,7 @@ module _ (T : Setup) (S : IsService T) (J : List Entry) (e : Entry) (runs' : IsS
   pub sound-here : IsSound T i here
   sound-here = (schedule-sound T S.setup J runs).sides i few
 
-  pub order : (u : ℕ) (c : Call) → e.event.act ≡ Calls u → next_call T here u ≡ Some c → (before : List Call) × IsInOrder T u before c
+  pub order : (u : ℕ) (c : Call) → e.event.act ≡ Calls u → next_call T here u ≡ Some c → (before : List Call) × MayComeNext T u before c
   order u c act there = (take (row here u).next_call (calls_of T u), S.calls u (row here u).next_call c there)
 
   pub living : (u : ℕ) → e.event.act ≡ Kill u → ⊥
@@ -513,7 +513,7 @@ module _ (T : Setup) (S : IsService T) (J : List Entry) (e : Entry) (runs' : IsS
           pub holds-now : (sel : ℕ) → holds (calls_made T W' v) sel ≡ holds_after sel (holds (calls_made T W v) sel) c
           holds-now sel = ap (λ cs. holds cs sel) more-calls ∙ holds-more (calls_made T W v) c sel
 
-          pub in-order : IsInOrder T v (calls_made T W v) c
+          pub in-order : MayComeNext T v (calls_made T W v) c
           in-order = S.calls v (row s v).next_call c next
 
           no-wait : (sel : ℕ) → Unwaited sel

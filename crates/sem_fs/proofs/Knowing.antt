@@ -44,7 +44,7 @@ use Rattle.sem_revoke.proofs.Completing.{told-free}
 use Rattle.sem_revoke.proofs.ExchangeWorlds.{start-unparked}
 use Rattle.sem_files.specs.Files.{EXTENT}
 use Rattle.sem_files.specs.Compiled.{SERVER, SESSION, ACCESS, service_key}
-use Rattle.sem_fs.specs.Service.{GIVEN, IsWhole, IsAccess, IsService, IsInOrder, holds}
+use Rattle.sem_fs.specs.Service.{GIVEN, IsWholeExtent, IsAccess, IsService, MayComeNext, holds}
 use Rattle.sem_fs.specs.Serving.{IsWorldBy}
 use Rattle.sem_fs.specs.Holding.{home, calls_made, IsGiven}
 use Rattle.sem_fs.specs.Supplies.{IsSupplied, HasObjects}
@@ -137,20 +137,20 @@ module _ (T : Setup) (S : IsService T) where
       }
 
 -- Memory of a whole extent may be accessed anywhere.
-memory-passes : (right off len : ℕ) (b : Endpoint) → is_subset right RIGHTS ≡ true → object_kind b.object ≡ MemKind → IsWhole b.object → off + len ≤ EXTENT
+memory-passes : (right off len : ℕ) (b : Endpoint) → is_subset right RIGHTS ≡ true → object_kind b.object ≡ MemKind → IsWholeExtent b.object → off + len ≤ EXTENT
     → ◌≡◌ {A = Option Code} (first_code (memory_tests right off len (Some b))) None
 memory-passes right off len b may memory all within =
     cond-false (not (allows right b.object)) (Some Rights) (first_code ((is_past_end off len b.object, Range) ∷ [])) (ap not (allowed b.object memory all))
     ∙ cond-false (is_past_end off len b.object) (Some Range) None (inside b.object memory all)
   where
-    allowed : (o : Object) → object_kind o ≡ MemKind → IsWhole o → allows right o ≡ true
+    allowed : (o : Object) → object_kind o ≡ MemKind → IsWholeExtent o → allows right o ≡ true
     allowed (Mem base size rights) memory all = ap (is_subset right) all.1 ∙ may
     allowed (Recv slots) memory all = let no' : ◌≡◌ {A = Kind} RecvKind MemKind = memory in absurd cc
     allowed (Send gate label credits) memory all = let no' : ◌≡◌ {A = Kind} SendKind MemKind = memory in absurd cc
     allowed (Serv name) memory all = let no' : ◌≡◌ {A = Kind} ServKind MemKind = memory in absurd cc
     allowed (Sess service ident) memory all = let no' : ◌≡◌ {A = Kind} SessKind MemKind = memory in absurd cc
 
-    inside : (o : Object) → object_kind o ≡ MemKind → IsWhole o → is_past_end off len o ≡ false
+    inside : (o : Object) → object_kind o ≡ MemKind → IsWholeExtent o → is_past_end off len o ≡ false
     inside (Mem base size rights) memory all = false_from_ne_true (nat_lt size (off + len))
         (λ past. let less = ltb-true size (off + len) past in let same = all.0 in omega (arith, less, same, within))
     inside (Recv slots) memory all = let no' : ◌≡◌ {A = Kind} RecvKind MemKind = memory in absurd cc
@@ -159,7 +159,7 @@ memory-passes right off len b may memory all within =
     inside (Sess service ident) memory all = let no' : ◌≡◌ {A = Kind} SessKind MemKind = memory in absurd cc
 
 -- a session is with the server
-session-so : (o : Object) → object_kind o ≡ SessKind → IsWhole o → session_service o ≡ Some service_key
+session-so : (o : Object) → object_kind o ≡ SessKind → IsWholeExtent o → session_service o ≡ Some service_key
 session-so (Sess service ident) is all = ap Some all
 session-so (Mem base size rights) is all = let no' : ◌≡◌ {A = Kind} MemKind SessKind = is in absurd cc
 session-so (Recv slots) is all = let no' : ◌≡◌ {A = Kind} RecvKind SessKind = is in absurd cc
@@ -181,7 +181,7 @@ module _ (T : Setup) (S : IsService T) (J : List Entry) (runs : IsSchedule T J) 
     asks : AsksAt call sel
     suits : Suits call k.kind
     kind : object_kind c.object ≡ k.kind
-    all : IsWhole c.object
+    all : IsWholeExtent c.object
 
   held-at : (v sel : ℕ) (k : KeyName) (c : Capability) → sel < GIVEN → slot (home T W v) v sel ≡ Held k → IsGiven T J k → cap (home T W v) k ≡ Some c
       → IsHeldAt v sel k c
@@ -231,7 +231,7 @@ module _ (T : Setup) (S : IsService T) (J : List Entry) (runs : IsSchedule T J) 
       among = found (λ (x : Capability). key_eq x.key k) (home T (world_after T J) v).caps c held
 
   -- a call that asks at the selector of sessions opens one, and at the others asks for an extent
-  asks-session : (v : ℕ) (before : List Call) (c : Call) (kind : Kind) → IsInOrder T v before c → AsksAt c SESSION → Suits c kind → kind ≡ SessKind
+  asks-session : (v : ℕ) (before : List Call) (c : Call) (kind : Kind) → MayComeNext T v before c → AsksAt c SESSION → Suits c kind → kind ≡ SessKind
   asks-session v before (OpenSession dst name) kind so asks suits = suits
   asks-session v before (AskOffer dst session index) kind so asks suits = absurd (none dst so.2 asks)
     where
@@ -250,7 +250,7 @@ module _ (T : Setup) (S : IsService T) (J : List Entry) (runs : IsSchedule T J) 
   asks-session v before Exit kind so asks suits = absurd asks
   asks-session v before (Clear src) kind so asks suits = absurd asks
 
-  asks-extent : (v sel : ℕ) (before : List Call) (c : Call) (kind : Kind) → SESSION < sel → IsInOrder T v before c → AsksAt c sel → Suits c kind →
+  asks-extent : (v sel : ℕ) (before : List Call) (c : Call) (kind : Kind) → SESSION < sel → MayComeNext T v before c → AsksAt c sel → Suits c kind →
       kind ≡ MemKind
   asks-extent v sel before (AskOffer dst session index) kind beyond so asks suits = suits
   asks-extent v sel before (OpenSession dst name) kind beyond so asks suits = absurd (none dst so.0 asks)
@@ -281,7 +281,7 @@ module _ (T : Setup) (S : IsService T) (J : List Entry) (runs : IsSchedule T J) 
   access-passes right v ep off len c may next so =
       ap (λ n. first_code (memory_tests right off len (endpoint (home T W v) v n))) so.0
       ∙ (ap (λ o. first_code (memory_tests right off len o)) b.bound.at
-      ∙ memory-passes right off len b.bound.bound may (ap object_kind (sym sound-b.object) ∙ kind) (subst IsWhole sound-b.object held-b.all) so.1)
+      ∙ memory-passes right off len b.bound.bound may (ap object_kind (sym sound-b.object) ∙ kind) (subst IsWholeExtent sound-b.object held-b.all) so.1)
     where
       d : (d : VpeDecl) × (decl T v ≡ Some d)
       d = calls-decl T v (row (home T W v) v).next_call c next

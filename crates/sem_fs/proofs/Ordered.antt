@@ -16,7 +16,7 @@ use Rattle.sem_files.specs.declared.files.Command.{Command}
 use Rattle.sem_files.specs.Files.{Files, EXTENT, is_file, extents_of, handle_of, open_after, is_about, open_file, file_of, IsHandle, IsAct, IsCommand}
 use Rattle.sem_files.specs.Compiled.{SESSION, ACCESS, opened_at, given_at, part_accessed, below, calls_of_act, calls_of_command, calls_from, client_calls}
 use Rattle.sem_files.specs.Compiled.{compiled, AreFiles}
-use Rattle.sem_fs.specs.Service.{holds, holds_after, IsInOrder}
+use Rattle.sem_fs.specs.Service.{holds, holds_after, MayComeNext}
 use Rattle.sem_fs.proofs.Rising.{in-range, range-in, range-rises, few-extents, file-near}
 use Rattle.sem_fs.proofs.Commanding.{Goes, AllGo, go-nil, go-cons, go-append, each-goes, all-valid, holds-append, holds-quiet, IsQuiet, asks, revokes}
 use Rattle.sem_fs.proofs.Commanding.{asks-apart, asks-hold, revokes-apart, revokes-free, asks-go, revokes-go, shares-go, accesses-go, accesses-quiet}
@@ -292,5 +292,5 @@ module _ (F : Files) (AF : AreFiles F) (v : ℕ) where
   pub client-valid : All (IsValidCall 64) (client_calls F v)
   client-valid = all-valid T v [] (client_calls F v) client-goes
 
-  pub client-ordered : (n : ℕ) (c : Call) → slice_get (client_calls F v) n ≡ Some c → IsInOrder T v (take n (client_calls F v)) c
+  pub client-ordered : (n : ℕ) (c : Call) → slice_get (client_calls F v) n ≡ Some c → MayComeNext T v (take n (client_calls F v)) c
   client-ordered n c some = each-goes T v [] (client_calls F v) client-goes n c some

@@ -35,7 +35,7 @@ use Rattle.sem_machine.specs.Machine.{World, side, next_call}
 use Rattle.sem_machine.specs.Schedules.{IsSchedule, world_after}
 use Rattle.sem_machine.proofs.FirstCodes.{Passed}
 use Rattle.sem_files.specs.Compiled.{SERVER, SESSION, service_key}
-use Rattle.sem_fs.specs.Service.{GIVEN, IsService, IsInOrder, holds}
+use Rattle.sem_fs.specs.Service.{GIVEN, IsService, MayComeNext, holds}
 use Rattle.sem_fs.specs.Holding.{home, calls_made, IsGiven, IsHolding}
 use Rattle.sem_fs.specs.Supplies.{IsSupplied}
 use Rattle.sem_fs.proofs.Sparing.{lives, low, sound, cut-waits, unmarked, Revokes}
@@ -192,7 +192,7 @@ module _ (T : Setup) (S : IsService T) (J : List Entry) (runs : IsSchedule T J) 
           bindable sel beyond near h = ap (object_passes stays_at_home) (own-at sel h)
               ∙ X.objects.extents v sel h.key h.capability beyond near h.at_slot h.given h.held
 
-          by_call : (c : Call) → next_call T s v ≡ Some c → IsInOrder T v (calls_made T W v) c → CallPasses T i t v c
+          by_call : (c : Call) → next_call T s v ≡ Some c → MayComeNext T v (calls_made T W v) c → CallPasses T i t v c
           by_call (OpenSession dst name) next (session, named, none) =
               let named' : service_named T name ≡ Some (record { name = 0; key = service_key }) = ap (service_named T) named ∙ S.served in (
                 (

@@ -47,11 +47,11 @@ use Rattle.sem_revoke.proofs.Steady.{IsSteady, revoked-steady, requested-steady,
 use Rattle.sem_revoke.proofs.Waits.{parked-here, parked-other}
 use Rattle.sem_files.specs.Compiled.{SERVER}
 use Rattle.sem_fs.specs.Service.{GIVEN}
-use Rattle.sem_fs.specs.Serving.{IsServed, IsAskBy, IsMessageBy, IsServedCall, IsSideBy}
+use Rattle.sem_fs.specs.Serving.{MayBeAskedFor, IsAskBy, IsMessageBy, IsServedCall, IsSideBy}
 
 module _ (T : Setup) where
   -- what is served is asked of the server
-  served-target : (target : Target) → IsServed T target → target_vpe target ≡ SERVER
+  served-target : (target : Target) → MayBeAskedFor T target → target_vpe target ≡ SERVER
   served-target (SelTarget vpe sel) is = absurd is
   served-target (ServTarget service) is = ap (λ (k : KeyName). k.vpe) is
   served-target (OfferTarget service index) is = ap (λ (k : KeyName). k.vpe) is.0
@@ -72,7 +72,7 @@ module _ (T : Setup) where
   IsReceived s m = Unit {0}
 
 -- Which place asks for which target is a relation, and all that is asked for is served.
-module _ (T : Setup) (A : PlaceName → Target → Type 0) (serves : (place : PlaceName) (target : Target) → A place target → IsServed T target) where
+module _ (T : Setup) (A : PlaceName → Target → Type 0) (serves : (place : PlaceName) (target : Target) → A place target → MayBeAskedFor T target) where
   abbrev P : Side → Type 0
   P s = IsSideBy T A s
 

@@ -43,7 +43,7 @@ use Rattle.sem_machine.proofs.FirstCodes.{Passed}
 use Rattle.sem_machine.proofs.Folds.{option-keeps}
 use Rattle.sem_files.specs.Compiled.{service_key}
 use Rattle.sem_fs.specs.Service.{GIVEN}
-use Rattle.sem_fs.specs.Serving.{IsServed, IsAskBy, IsMessageBy, IsSideBy}
+use Rattle.sem_fs.specs.Serving.{MayBeAskedFor, IsAskBy, IsMessageBy, IsSideBy}
 use Rattle.sem_fs.proofs.ServedRows.{Succeeds, IsGrantable, IsReceived, served-counted, served-taken, served-inbox, ask-served, offer-served, revoke-served}
 use Rattle.sem_fs.proofs.ServedRows.{given-served, here-served, prepared-served, resume-served, handled-served}
 
@@ -57,7 +57,7 @@ passed-done (test ∷ tests) refuse done all = cond-false test.0 (refuse test.1)
 abbrev pub CallPasses : Setup → ℕ → Side → ℕ → Call → Type 0
 CallPasses T i s v (OpenSession dst name) = Passed (open_tests T i s v dst name) × ((x : Service) × (service_named T name ≡ Some x) × (x.key ≡ service_key))
 CallPasses T i s v (AskOffer dst session index) =
-    Passed (offer_tests T i s v dst session) × IsServed T (OfferTarget service_key index)
+    Passed (offer_tests T i s v dst session) × MayBeAskedFor T (OfferTarget service_key index)
     × ((c : Capability) × (own s v session ≡ Some c) × (session_service c.object ≡ Some service_key))
 CallPasses T i s v (Delegate src w dst) = Passed (delegate_tests T i s v src w) × (GIVEN ≤ dst) × ((c : Capability) × (own s v src ≡ Some c))
 CallPasses T i s v (Revoke src) = (c : Capability) × (own s v src ≡ Some c)
@@ -107,7 +107,7 @@ AsksFor (OpenSession dst name) (ServTarget service) = Unit {0}
 AsksFor (AskOffer dst session index) (OfferTarget service index') = index ≡ index'
 AsksFor c target = ⊥
 
-module _ (T : Setup) (A : PlaceName → Target → Type 0) (serves : (place : PlaceName) (target : Target) → A place target → IsServed T target) where
+module _ (T : Setup) (A : PlaceName → Target → Type 0) (serves : (place : PlaceName) (target : Target) → A place target → MayBeAskedFor T target) where
   abbrev P : Side → Type 0
   P s = IsSideBy T A s
 
@@ -122,7 +122,7 @@ module _ (T : Setup) (A : PlaceName → Target → Type 0) (serves : (place : Pl
 
   -- what a call asks for is asked for by the place that it draws
   abbrev pub Asks : Side → ℕ → Call → Type 0
-  Asks s v c = (target : Target) → IsServed T target → AsksFor c target → A (next_place T s v) target
+  Asks s v c = (target : Target) → MayBeAskedFor T target → AsksFor c target → A (next_place T s v) target
 
   pub call-succeeds : (i v : ℕ) (s : Side) (c : Call) → P s → Asks s v c → CallPasses T i s v c → Good (call_row T i s v c)
   unfolding call_row

@@ -24,12 +24,12 @@ use Rattle.sem_machine.proofs.Folds.{in_turn-keeps}
 use Rattle.sem_safety.proofs.CarryingWorlds.{stepped}
 use Rattle.sem_sound.proofs.Starting.{get_or-replicate}
 use Rattle.sem_revoke.proofs.Serving.{tells}
-use Rattle.sem_fs.specs.Serving.{IsServed, IsMessageBy, IsServedCall, IsSideBy, IsWorldBy, Served}
+use Rattle.sem_fs.specs.Serving.{MayBeAskedFor, IsMessageBy, IsServedCall, IsSideBy, IsWorldBy, Served}
 use Rattle.sem_fs.proofs.Lifting.{IsSpread, after-spread, start-spread, input-among}
 use Rattle.sem_fs.proofs.ServedRows.{Succeeds, served-row, served-caps}
 use Rattle.sem_fs.proofs.ServedSteps.{ActPasses, IsServedInput, ActAsks, step-succeeds}
 
-module _ (T : Setup) (A : PlaceName → Target → Type 0) (serves : (place : PlaceName) (target : Target) → A place target → IsServed T target) where
+module _ (T : Setup) (A : PlaceName → Target → Type 0) (serves : (place : PlaceName) (target : Target) → A place target → MayBeAskedFor T target) where
   abbrev P : Side → Type 0
   P s = IsSideBy T A s
 
@@ -64,7 +64,7 @@ module _ (T : Setup) (A : PlaceName → Target → Type 0) (serves : (place : Pl
             ∙ succeeds.1 code at
 
 -- At the start nothing is under way.
-module _ (T : Setup) (A : PlaceName → Target → Type 0) (serves : (place : PlaceName) (target : Target) → A place target → IsServed T target) where
+module _ (T : Setup) (A : PlaceName → Target → Type 0) (serves : (place : PlaceName) (target : Target) → A place target → MayBeAskedFor T target) where
   no_side-served : IsSideBy T A no_side
   no_side-served = record {
     asks = λ u a among. absurd (Contains-nil a among);
@@ -104,7 +104,7 @@ module _ (T : Setup) (A : PlaceName → Target → Type 0) (serves : (place : Pl
 
 -- where any place may ask
 module _ (T : Setup) where
-  pub any-serves : (place : PlaceName) (target : Target) → Served T place target → IsServed T target
+  pub any-serves : (place : PlaceName) (target : Target) → Served T place target → MayBeAskedFor T target
   any-serves place target is = is
 
   pub any-asks : (s : Side) (a : Act) → ActAsks T (Served T) any-serves s a

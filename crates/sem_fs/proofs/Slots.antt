@@ -50,7 +50,7 @@ use Rattle.sem_machine.proofs.FirstCodes.{unless-keeps}
 use Rattle.sem_machine.proofs.Folds.{option-keeps}
 use Rattle.sem_safety.proofs.Skeleton.{decided-by, handled-by}
 use Rattle.sem_revoke.proofs.Steady.{IsSteady, revoked-steady, requested-steady, done-steady}
-use Rattle.sem_fs.specs.Service.{GIVEN, IsInOrder}
+use Rattle.sem_fs.specs.Service.{GIVEN, MayComeNext}
 use Rattle.sem_fs.specs.Serving.{IsServedAsk, IsServedSide}
 use Rattle.sem_fs.proofs.ServedSteps.{ask-among}
 
@@ -176,7 +176,7 @@ module _ (v sel : ℕ) (near : sel < GIVEN) (x : Slot) where
   held-slotted : (o : Option Capability) (f : Capability → Step) (s : Side) → Slotted s → ((c : Capability) → On (f c)) → On (with_held o f s)
   held-slotted o f s is each = option-keeps On f o (answer NoCap s) (λ c held. each c) is
 
-  call-slotted : (T : Setup) (i u : ℕ) (before : List Call) (c : Call) (s : Side) → IsInOrder T u before c → (u ≡ v → AsksAt c sel → ⊥) → Slotted s
+  call-slotted : (T : Setup) (i u : ℕ) (before : List Call) (c : Call) (s : Side) → MayComeNext T u before c → (u ≡ v → AsksAt c sel → ⊥) → Slotted s
       → On (call_row T i s u c)
   unfolding call_row
   call-slotted T i u before (OpenSession dst name) s so apart is = unless-keeps On (open_tests T i s u dst name) _ _ (λ code. is)
@@ -309,7 +309,7 @@ module _ (v sel : ℕ) (near : sel < GIVEN) (x : Slot) where
 
   -- A step that does not ask at the selector, of a VPE that does not wait for it.
   pub step-slotted : (T : Setup) (i : ℕ) (s : Side) (a : Act) (input : Option Message) → IsServedSide T s → OwnsCalls s → Unawaited s
-      → ((u : ℕ) (c : Call) → a ≡ Calls u → next_call T s u ≡ Some c → ((before : List Call) × IsInOrder T u before c) × (u ≡ v → AsksAt c sel → ⊥))
+      → ((u : ℕ) (c : Call) → a ≡ Calls u → next_call T s u ≡ Some c → ((before : List Call) × MayComeNext T u before c) × (u ≡ v → AsksAt c sel → ⊥))
       → ((u : ℕ) → a ≡ Kill u → ⊥) → Slotted s → On (local_step T i s a input)
   unfolding local_step
   step-slotted T i s (Calls u) input served owns free order living is =

@@ -55,7 +55,7 @@ use Rattle.sem_machine.proofs.Folds.{option-keeps}
 use Rattle.sem_safety.proofs.Skeleton.{handled-by}
 use Rattle.sem_sound.proofs.Refusing.{awaited-waits}
 use Rattle.sem_revoke.proofs.Steady.{IsSteady, revoked-steady, requested-steady, done-steady}
-use Rattle.sem_fs.specs.Service.{IsInOrder}
+use Rattle.sem_fs.specs.Service.{MayComeNext}
 
 module _ (T : Setup) (s : Side) (v : ℕ) (k : KeyName) (New : Type 0) where
   -- where the key would come from
@@ -177,7 +177,7 @@ module _ (T : Setup) (s : Side) (v : ℕ) (k : KeyName) (New : Type 0) where
     held-staying : (o : Option Capability) (f : Capability → Step) (t : Side) → Staying t → ((c : Capability) → On (f c)) → On (with_held o f t)
     held-staying o f t is each = option-keeps On f o (answer NoCap t) (λ c held. each c) is
 
-    call-staying : (i u : ℕ) (before : List Call) (c : Call) (t : Side) → IsInOrder T u before c → Staying t → On (call_row T i t u c)
+    call-staying : (i u : ℕ) (before : List Call) (c : Call) (t : Side) → MayComeNext T u before c → Staying t → On (call_row T i t u c)
     unfolding call_row
     call-staying i u before (OpenSession dst name) t so is = unless-keeps On (open_tests T i t u dst name) _ _ (λ code. is)
         (option-keeps On (λ (y : Service). ask_made T i u dst (ServTarget y.key) t) (service_named T name) (answer NoService t)
@@ -324,7 +324,7 @@ module _ (T : Setup) (s : Side) (v : ℕ) (k : KeyName) (New : Type 0) where
     })
 
     pub step-staying : (i : ℕ) (a : Act) (input : Option Message)
-        → ((u : ℕ) (c : Call) → a ≡ Calls u → next_call T s u ≡ Some c → (before : List Call) × IsInOrder T u before c) → ((u : ℕ) → a ≡ Kill u → ⊥)
+        → ((u : ℕ) (c : Call) → a ≡ Calls u → next_call T s u ≡ Some c → (before : List Call) × MayComeNext T u before c) → ((u : ℕ) → a ≡ Kill u → ⊥)
         → On (local_step T i s a input)
     unfolding local_step
     step-staying i (Calls u) input order living = option-keeps On (call_row T i (call_counted u s) u) (next_call T s u) (plain s)

@@ -24,7 +24,7 @@ use Rattle.sem_machine.specs.Journals.{ends, has_ended}
 use Rattle.sem_safety.proofs.GoingOn.{entry-enabled}
 use Rattle.sem_revoke.proofs.Revoking.{enabled-parts}
 use Rattle.sem_revoke.proofs.Serving.{tells}
-use Rattle.sem_fs.specs.Service.{IsService, IsInOrder}
+use Rattle.sem_fs.specs.Service.{IsService, MayComeNext}
 
 -- an element stands somewhere in its list
 pub parted : {X : Type 0} (xs : List X) (x : X) → Contains xs x → (before : List X) × (later : List X) × (xs ≡ before ++ x ∷ later)
@@ -41,7 +41,7 @@ entered T before later e runs = entry-enabled T before (start T) e later runs
 
 module _ (T : Setup) (S : IsService T) where
   no-exit : (v n : ℕ) (c : Call) → slice_get (calls_of T v) n ≡ Some c → c ≡ Exit → ⊥
-  no-exit v n c at same = subst (IsInOrder T v (take n (calls_of T v))) same (S.calls v n c at)
+  no-exit v n c at same = subst (MayComeNext T v (take n (calls_of T v))) same (S.calls v n c at)
 
   -- nobody is killed
   pub no-kill : (i : ℕ) (s : Side) (w : ℕ) → is_locally_enabled T i s (Kill w) ≡ true → ⊥

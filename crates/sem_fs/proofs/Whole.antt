@@ -42,23 +42,23 @@ use Rattle.sem_safety.proofs.GoingOn.{AnyVpe, may_act}
 use Rattle.sem_safety.proofs.KeptRows.{CallGives}
 use Rattle.sem_safety.proofs.KeptSteps.{Dies, AskGives, ActGives}
 use Rattle.sem_files.specs.Files.{EXTENT}
-use Rattle.sem_fs.specs.Service.{IsWhole, IsService, IsInOrder}
-use Rattle.sem_fs.specs.Serving.{IsServed, IsServedWorld}
+use Rattle.sem_fs.specs.Service.{IsWholeExtent, IsService, MayComeNext}
+use Rattle.sem_fs.specs.Serving.{MayBeAskedFor, IsServedWorld}
 use Rattle.sem_fs.proofs.Lifting.{world-next}
 use Rattle.sem_fs.proofs.ServedSteps.{ActPasses, ask-among}
 use Rattle.sem_fs.proofs.HoldingSteps.{order}
 
 abbrev pub whole : Facts
 whole = record {
-  key = λ k o. IsWhole o;
+  key = λ k o. IsWholeExtent o;
   acked = λ k. Unit {0};
   place = λ v n. Unit {0};
   asked = λ v n. Unit {0};
   calls = λ v. Unit {0};
   ends = λ v. Unit {0};
-  offered = λ k o. IsWhole o;
+  offered = λ k o. IsWholeExtent o;
   handed = λ o. Unit {0};
-  pends = λ p. IsWhole p.object;
+  pends = λ p. IsWholeExtent p.object;
   prepared = λ p k. Unit {0};
   link = λ p k. Unit {0};
   doomed = λ k. Unit {0};
@@ -116,13 +116,13 @@ module _ (T : Setup) (S : IsService T) where
       sides_of (i ∷ is) = All-cons (InSide whole) (start_side T i) (map (start_side T) is) (side-whole i) (sides_of is)
 
 -- the object of what is held
-pub held-whole : (s : Side) → InSide whole s → (k : KeyName) (c : Capability) → cap s k ≡ Some c → IsWhole c.object
+pub held-whole : (s : Side) → InSide whole s → (k : KeyName) (c : Capability) → cap s k ≡ Some c → IsWholeExtent c.object
 held-whole s is k c held = (All-contains (InCap whole) s.caps c is.caps (found (λ (x : Capability). key_eq x.key k) s.caps c held).0).key
 
-own-whole : (s : Side) → InSide whole s → (v sel : ℕ) (c : Capability) → own s v sel ≡ Some c → IsWhole c.object
+own-whole : (s : Side) → InSide whole s → (v sel : ℕ) (c : Capability) → own s v sel ≡ Some c → IsWholeExtent c.object
 own-whole s is v sel c held = from (slot s v sel) held
   where
-    from : (x : Slot) → cap_in s x ≡ Some c → IsWhole c.object
+    from : (x : Slot) → cap_in s x ≡ Some c → IsWholeExtent c.object
     from Free none = absurd cc
     from Promised none = absurd cc
     from (Held k) some = held-whole s is k c some
@@ -138,7 +138,7 @@ module _ (T : Setup) (S : IsService T) (J : List Entry) (e : Entry) (runs' : IsS
   here-whole : InSide whole here
   here-whole = side-in whole W is e.event.kernel
 
-  call-gives : (v : ℕ) (before : List Call) (c : Call) → IsInOrder T v before c → CallGives whole (call_counted v here) v c
+  call-gives : (v : ℕ) (before : List Call) (c : Call) → MayComeNext T v before c → CallGives whole (call_counted v here) v c
   call-gives v before (Derive src dst off len rights) so = absurd so
   call-gives v before (Gate src dst label credits) so = absurd so
   call-gives v before (Obtain dst w src) so = absurd so
@@ -158,13 +158,13 @@ module _ (T : Setup) (S : IsService T) (J : List Entry) (e : Entry) (runs' : IsS
   taken-whole v = put_row-in whole here here-whole v (record (row here v) { asks = drop 1 (row here v).asks })
       (All-drop_one (AsksFor whole) (row here v).asks (row-in whole here here-whole v))
 
-  source-whole : (v : ℕ) (place : PlaceName) (target : Target) → IsServed T target → (p : Capability) → source T (ask_taken v here) v target ≡ Some p
-      → IsWhole (given target place.vpe p)
+  source-whole : (v : ℕ) (place : PlaceName) (target : Target) → MayBeAskedFor T target → (p : Capability) → source T (ask_taken v here) v target ≡ Some p
+      → IsWholeExtent (given target place.vpe p)
   source-whole v place (SelTarget vpe sel) so p from = absurd so
   source-whole v place (ServTarget service) so p from = so
   source-whole v place (OfferTarget service index) so p from = by_offer (offered T service index) from
     where
-      by_offer : (o : Option ℕ) → option_and_then (own (ask_taken v here) v) o ≡ Some p → IsWhole p.object
+      by_offer : (o : Option ℕ) → option_and_then (own (ask_taken v here) v) o ≡ Some p → IsWholeExtent p.object
       by_offer None none = absurd cc
       by_offer (Some sel) some = own-whole (ask_taken v here) (taken-whole v) v sel p some
 

@@ -8,7 +8,7 @@ use Rattle.sem_machine.specs.Prelude.{entry_of, enabled, world_after, made, cut}
 use Rattle.sem_files.specs.declared.files.FileAct.TheVariants.{OpenFile, Write, Share, Close}
 use Rattle.sem_files.specs.Files.{Files}
 use Rattle.sem_files.specs.Compiled.{client_calls, compiled}
-use Rattle.sem_fs.specs.Openings.{Opening, IsClosed}
+use Rattle.sem_fs.specs.Openings.{Opening, IsClosedOpening}
 
 abbrev pub key : ℕ → ℕ → KeyName
 key v n = record { pe = v; vpe = v; kind = MemKind; number = n }
@@ -112,4 +112,4 @@ abbrev pub journal_of_one : List Entry
 journal_of_one = run_of one_client 100
 
 abbrev pub closed_in_one : Type 0
-closed_in_one = (o : Opening one_client) × IsClosed journal_of_one o
+closed_in_one = (o : Opening one_client) × IsClosedOpening journal_of_one o

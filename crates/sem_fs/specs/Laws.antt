@@ -7,7 +7,7 @@ use Rattle.sem_machine.specs.Journals.{Descends}
 use Rattle.sem_machine.specs.Safety.{IsInUse}
 use Rattle.sem_files.specs.Files.{Files}
 use Rattle.sem_files.specs.Compiled.{compiled, AreFiles}
-use Rattle.sem_fs.specs.Openings.{Opening, IsKeyOf, IsClosed}
+use Rattle.sem_fs.specs.Openings.{Opening, IsKeyOfOpening, IsClosedOpening}
 use Rattle.sem_fs.specs.Service.{IsService}
 use Rattle.sem_fs.specs.Holding.{home}
 use Rattle.sem_fs.specs.Going.{AllSucceed}
@@ -59,5 +59,5 @@ commands_succeed F J = AllSucceed J
 -- no key that descends from a key of a closed opening is live or bound
 abbrev pub closed_are_gone : Files → List Entry → Type 0
 closed_are_gone F J =
-    (o : Opening F) → IsClosed J o → (a k : KeyName) → IsKeyOf J o a → Descends J a k
+    (o : Opening F) → IsClosedOpening J o → (a k : KeyName) → IsKeyOfOpening J o a → Descends J a k
     → IsInUse (world_after (compiled F) J) k → ⊥

@@ -54,7 +54,7 @@ abbrev pub opening_command : {F : Files} → Opening F → Command
 opening_command o = record { client = o.client; act = OpenFile o.handle o.file }
 
 -- a key of an opening: it was granted to one of its asks
-pub record IsKeyOf {F : Files} (J : List Entry) (o : Opening F) (k : KeyName) : Type 0 where
+pub record IsKeyOfOpening {F : Files} (J : List Entry) (o : Opening F) (k : KeyName) : Type 0 where
   pub extent : ℕ
   pub within : extent < extents_of F o.file
   pub granted : IsGrantedTo J o.client (calls_before F o.client o.before + extent) k
@@ -74,7 +74,7 @@ calls_before_closing {F} {o} x =
     calls_before F o.client (o.before ++ opening_command o ∷ x.between)
 
 -- an opening is closed: the last revoke of its closing has its reply
-pub record IsClosed {F : Files} (J : List Entry) (o : Opening F) : Type 0 where
+pub record IsClosedOpening {F : Files} (J : List Entry) (o : Opening F) : Type 0 where
   pub closing : Closing o
   pub last : ℕ
   pub is_last : last + 1 ≡ extents_of F o.file

@@ -35,47 +35,47 @@ pub record IsExtent (T : Setup) (sel : ℕ) : Type 0 where
   pub near : sel < GIVEN
 
 -- memory is a whole extent with all rights, and a session is one with the server
-abbrev pub IsWhole : Object → Type 0
-IsWhole (Mem base len rights) = (len ≡ EXTENT) × (rights ≡ RIGHTS)
-IsWhole (Recv slots) = Unit {0}
-IsWhole (Send gate label credits) = Unit {0}
-IsWhole (Serv name) = Unit {0}
-IsWhole (Sess service ident) = service ≡ service_key
+abbrev pub IsWholeExtent : Object → Type 0
+IsWholeExtent (Mem base len rights) = (len ≡ EXTENT) × (rights ≡ RIGHTS)
+IsWholeExtent (Recv slots) = Unit {0}
+IsWholeExtent (Send gate label credits) = Unit {0}
+IsWholeExtent (Serv name) = Unit {0}
+IsWholeExtent (Sess service ident) = service ≡ service_key
 
 -- a client uses an extent that it opened
-abbrev pub IsOpened : List Call → ℕ → Type 0
-IsOpened before src = (SESSION < src) × (src < GIVEN) × (holds before src ≡ true)
+abbrev pub HasOpened : List Call → ℕ → Type 0
+HasOpened before src = (SESSION < src) × (src < GIVEN) × (holds before src ≡ true)
 
 -- the last call bound the endpoint to an extent
-pub record IsBound (before : List Call) : Type 0 where
+pub record BindsExtent (before : List Call) : Type 0 where
   pub first : List Call
   pub selector : ℕ
   pub last : before ≡ first ++ Bind ACCESS selector ∷ []
 
 abbrev pub IsAccess : List Call → ℕ → ℕ → ℕ → Type 0
-IsAccess before ep off len = (ep ≡ ACCESS) × (off + len ≤ EXTENT) × IsBound before
+IsAccess before ep off len = (ep ≡ ACCESS) × (off + len ≤ EXTENT) × BindsExtent before
 
 -- a call that VPE v may make after others
-abbrev pub IsInOrder : Setup → ℕ → List Call → Call → Type 0
-IsInOrder T v before (OpenSession dst name) =
+abbrev pub MayComeNext : Setup → ℕ → List Call → Call → Type 0
+MayComeNext T v before (OpenSession dst name) =
     (dst ≡ SESSION) × (name ≡ 0) × (holds before dst ≡ false)
-IsInOrder T v before (AskOffer dst session index) =
+MayComeNext T v before (AskOffer dst session index) =
     (session ≡ SESSION) × (holds before SESSION ≡ true) × (SESSION < dst) × (dst < GIVEN)
     × (holds before dst ≡ false)
     × ((sel : ℕ) × (offered T service_key index ≡ Some sel) × IsExtent T sel)
-IsInOrder T v before (Bind ep src) = (ep ≡ ACCESS) × IsOpened before src
-IsInOrder T v before (ReadCall ep off len) = IsAccess before ep off len
-IsInOrder T v before (WriteCall ep off len) = IsAccess before ep off len
-IsInOrder T v before (Delegate src w dst) =
-    IsOpened before src × (is_declared T w ≡ true) × (w ≢ v) × (w ≢ SERVER) × (GIVEN ≤ dst)
-IsInOrder T v before (Revoke src) = IsOpened before src
-IsInOrder T v before (Derive src dst off len rights) = ⊥
-IsInOrder T v before (Gate src dst label credits) = ⊥
-IsInOrder T v before (Obtain dst w src) = ⊥
-IsInOrder T v before (SendCall ep len) = ⊥
-IsInOrder T v before (Credit ep) = ⊥
-IsInOrder T v before Exit = ⊥
-IsInOrder T v before (Clear src) = ⊥
+MayComeNext T v before (Bind ep src) = (ep ≡ ACCESS) × HasOpened before src
+MayComeNext T v before (ReadCall ep off len) = IsAccess before ep off len
+MayComeNext T v before (WriteCall ep off len) = IsAccess before ep off len
+MayComeNext T v before (Delegate src w dst) =
+    HasOpened before src × (is_declared T w ≡ true) × (w ≢ v) × (w ≢ SERVER) × (GIVEN ≤ dst)
+MayComeNext T v before (Revoke src) = HasOpened before src
+MayComeNext T v before (Derive src dst off len rights) = ⊥
+MayComeNext T v before (Gate src dst label credits) = ⊥
+MayComeNext T v before (Obtain dst w src) = ⊥
+MayComeNext T v before (SendCall ep len) = ⊥
+MayComeNext T v before (Credit ep) = ⊥
+MayComeNext T v before Exit = ⊥
+MayComeNext T v before (Clear src) = ⊥
 
 -- whether a call draws a number of its VPE
 abbrev pub is_ask : Call → Bool
@@ -115,14 +115,14 @@ pub record IsService (T : Setup) : Type 0 where
   pub served : service_named T 0 ≡ Some (record { name = 0; key = service_key })
   pub service_is_root : Contains (root_keys T) service_key
   pub whole :
-      (d : VpeDecl) (r : Root) → Contains T.vpes d → Contains d.roots r → IsWhole r.object
+      (d : VpeDecl) (r : Root) → Contains T.vpes d → Contains d.roots r → IsWholeExtent r.object
   -- no pair is denied, and no VPE is killed
   pub no_denies : T.denies ≡ []
   pub no_kills : T.kills ≡ []
   -- calls are in order
   pub calls :
       (v n : ℕ) (c : Call) → slice_get (calls_of T v) n ≡ Some c
-      → IsInOrder T v (take n (calls_of T v)) c
+      → MayComeNext T v (take n (calls_of T v)) c
   -- at most one call gives to a selector of a client, and none to the server
   pub given_once : (w dst : ℕ) → GIVEN ≤ dst → times_given T w (λ sel. sel == dst) ≤ 1
   pub ungiven : times_given T SERVER any ≡ 0

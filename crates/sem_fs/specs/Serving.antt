@@ -13,10 +13,10 @@ use Rattle.sem_files.specs.Compiled.{SERVER, service_key}
 use Rattle.sem_fs.specs.Service.{GIVEN, IsExtent}
 
 -- what a client may ask for: a session, or an extent
-abbrev pub IsServed : Setup → Target → Type 0
-IsServed T (SelTarget vpe sel) = ⊥
-IsServed T (ServTarget service) = service ≡ service_key
-IsServed T (OfferTarget service index) =
+abbrev pub MayBeAskedFor : Setup → Target → Type 0
+MayBeAskedFor T (SelTarget vpe sel) = ⊥
+MayBeAskedFor T (ServTarget service) = service ≡ service_key
+MayBeAskedFor T (OfferTarget service index) =
     (service ≡ service_key) × ((sel : ℕ) × (offered T service_key index ≡ Some sel) × IsExtent T sel)
 
 -- The following takes a relation of places and targets: which place asks for which target.
@@ -67,7 +67,7 @@ pub record IsWorldBy (T : Setup) (A : PlaceName → Target → Type 0) (W : Worl
 -- The relation in which any place asks for anything served.
 
 abbrev pub Served : Setup → PlaceName → Target → Type 0
-Served T place target = IsServed T target
+Served T place target = MayBeAskedFor T target
 
 abbrev pub IsServedAsk : Setup → ℕ → Ask → Type 0
 IsServedAsk T u a = IsAskBy (Served T) u a

@@ -10,7 +10,7 @@ use Rattle.sem_files.specs.declared.files.FileAct.TheVariants.{OpenFile, Write, 
 use Rattle.sem_files.specs.Files.{Files}
 use Rattle.sem_files.specs.Compiled.{compiled}
 use Rattle.sem_fs.specs.Examples.{key}
-use Rattle.sem_fs.specs.Openings.{Opening, IsClosed}
+use Rattle.sem_fs.specs.Openings.{Opening, IsClosedOpening}
 
 unfoldable pub two_clients : Files
 two_clients = record {
@@ -91,7 +91,7 @@ abbrev pub journal_of_two : List Entry
 journal_of_two = happened (compiled two_clients) (start (compiled two_clients)) events
 
 abbrev pub closed_in_two : Type 0
-closed_in_two = (o : Opening two_clients) × IsClosed journal_of_two o
+closed_in_two = (o : Opening two_clients) × IsClosedOpening journal_of_two o
 
 abbrev pub detail_at : ℕ → Option Detail
 detail_at n = option_map (λ e. e.detail) (slice_get journal_of_two n)

@@ -15,7 +15,7 @@ use Rattle.sem_fs.specs.Service.{GIVEN, IsExtent, is_ask}
 use Rattle.sem_fs.specs.Holding.{home, IsGiven}
 
 -- a client that is given something has room for it, and a number left
-pub record HasRoom (T : Setup) (W : World) (u : ℕ) (parent : KeyName) (object : Object) (sel : ℕ)
+pub record ClientHasRoom (T : Setup) (W : World) (u : ℕ) (parent : KeyName) (object : Object) (sel : ℕ)
     : Type 0 where
   pub room : slot (home T W u) u sel ≡ Free
   pub number : (row (home T W u) u).next_number < NUMBERS
@@ -25,15 +25,15 @@ pub record HasRooms (T : Setup) (J : List Entry) : Type 0 where
   pub given :
       (u : ℕ) (d : VpeDecl) (parent : KeyName) (object : Object) (sel : ℕ) → decl T u ≡ Some d
       → slice_get (row (home T (world_after T J) u) u).asks 0 ≡ Some (DelegateAsk parent object sel)
-      → HasRoom T (world_after T J) u parent object sel
+      → ClientHasRoom T (world_after T J) u parent object sel
   pub numbers :
       (v : ℕ) (d : VpeDecl) (c : Call) → decl T v ≡ Some d
       → next_call T (home T (world_after T J) v) v ≡ Some c → is_ask c ≡ true
       → (row (home T (world_after T J) v) v).next_number < NUMBERS
 
 -- no test holds
-abbrev pub Passes : List (Bool × Code) → Type 0
-Passes tests = ◌≡◌ {A = Option Code} (first_code tests) None
+abbrev pub PassesTests : List (Bool × Code) → Type 0
+PassesTests tests = ◌≡◌ {A = Option Code} (first_code tests) None
 
 -- objects are of the right kind
 pub record HasObjects (T : Setup) (J : List Entry) : Type 0 where
@@ -49,10 +49,10 @@ pub record HasObjects (T : Setup) (J : List Entry) : Type 0 where
   -- every accessed extent is bound, and big enough
   pub reads :
       (v ep off len : ℕ) → next_call T (home T (world_after T J) v) v ≡ Some (ReadCall ep off len)
-      → Passes (memory_tests 1 off len (endpoint (home T (world_after T J) v) v ep))
+      → PassesTests (memory_tests 1 off len (endpoint (home T (world_after T J) v) v ep))
   pub writes :
       (v ep off len : ℕ) → next_call T (home T (world_after T J) v) v ≡ Some (WriteCall ep off len)
-      → Passes (memory_tests 2 off len (endpoint (home T (world_after T J) v) v ep))
+      → PassesTests (memory_tests 2 off len (endpoint (home T (world_after T J) v) v ep))
 
 -- both
 pub record IsSupplied (T : Setup) (J : List Entry) : Type 0 where

@@ -13,7 +13,7 @@ use Rattle.sem_machine.specs.Sides.{Side, no_side}
 use Rattle.sem_machine.specs.Machine.{entry_of}
 use Rattle.sem_machine.specs.Schedules.{IsSchedule, world_after}
 use Rattle.sem_parts.specs.Parts.{RunsTo}
-use Rattle.sem_parts.specs.Standing.{StandAt, fabric_with}
+use Rattle.sem_parts.specs.SidesAfter.{AreSidesAfter, fabric_with}
 use Rattle.sem_parts.proofs.Together.{schedule-parts}
 use Rattle.sem_parts.proofs.Shapes.{schedule-stand, stand-world}
 use Rattle.sem_histories.specs.Outcomes.{HasSameParts, and_then}
@@ -28,7 +28,7 @@ module _ (T : Setup) (J K : List Entry) (runs : IsSchedule T J) (runs' : IsSched
   ]
 
   -- the sides and links after the one stand at the other
-  stand-other : StandAt T (world_after T J).sides (fabric_with T K (world_after T J).links [])
+  stand-other : AreSidesAfter T (world_after T J).sides (fabric_with T K (world_after T J).links [])
   stand-other =
       let stand = schedule-stand T J [] runs in
       let parts = schedule-parts T K runs' in

@@ -37,6 +37,6 @@ abbrev pub IsEnding : Setup → RunOutcome → List Entry → Type 0
 IsEnding T o J = IsComplete T J × (outcome T J ≡ o)
 
 -- that many of the list have the property
-abbrev pub HasCount : {A : Type 0} → (A → Type 0) → List A → ℕ → Type 0
-HasCount P [] n = n ≡ 0
-HasCount P (x ∷ xs) n = (P x × ((m : ℕ) × (n ≡ m + 1) × HasCount P xs m)) ⊎ ((P x → ⊥) × HasCount P xs n)
+abbrev pub HasSoMany : {A : Type 0} → (A → Type 0) → List A → ℕ → Type 0
+HasSoMany P [] n = n ≡ 0
+HasSoMany P (x ∷ xs) n = (P x × ((m : ℕ) × (n ≡ m + 1) × HasSoMany P xs m)) ⊎ ((P x → ⊥) × HasSoMany P xs n)

@@ -18,7 +18,7 @@ use Rattle.sem_msg.specs.Rows.{JobRow}
 use Rattle.sem_msg.specs.JobRows.{ids_of}
 use Rattle.sem_jobs.specs.declared.spot.IdSpot.{IdSpot}
 use Rattle.sem_jobs.specs.JobStore.{HasRisingIds}
-use Rattle.sem_jobs.specs.Stored.{blank, row_at, rows_of, LeadsTo, IsPlaced}
+use Rattle.sem_jobs.specs.Stored.{some_job, row_at, rows_of, LeadsTo, IsPlaced}
 
 -- Spots.
 
@@ -26,7 +26,7 @@ pub length-rows : (slab : Slab JobRow) (spots : List IdSpot) → length (rows_of
 length-rows slab spots = length-map spots (row_at slab)
 
 -- a spot leads to what it finds
-leading : (o : Option JobRow) (j : ℕ) → IsSomeAnd o (λ x. x.id ≡ j) → (o ≡ Some (unwrap_or o (blank j))) × ((unwrap_or o (blank j)).id ≡ j)
+leading : (o : Option JobRow) (j : ℕ) → IsSomeAnd o (λ x. x.id ≡ j) → (o ≡ Some (unwrap_or o (some_job j))) × ((unwrap_or o (some_job j)).id ≡ j)
 leading None j leads = absurd leads
 leading (Some x) j leads = (refl, leads)
 
@@ -43,7 +43,7 @@ leads-some slab spot x is same = rw is same
 rows-same : (old new : Slab JobRow) (spots : List IdSpot) → All (λ s. get new s.place ≡ get old s.place) spots → rows_of new spots ≡ rows_of old spots
 rows-same old new [] all = refl
 rows-same old new (s ∷ spots) all =
-    let here : row_at new s ≡ row_at old s = ap (λ o. unwrap_or o (blank s.id)) (all 0 s (omega arith)) in
+    let here : row_at new s ≡ row_at old s = ap (λ o. unwrap_or o (some_job s.id)) (all 0 s (omega arith)) in
     let rest = rows-same old new spots (All-tail (λ s. get new s.place ≡ get old s.place) s spots all) in
     rw (here, rest) refl
 
@@ -78,7 +78,7 @@ module _ (slab : Slab JobRow) (spots : List IdSpot) (placed : IsPlaced slab spot
 
   module _ (row : JobRow) (value : get slab spot.place ≡ Some row) where
     row-here : row_at slab spot ≡ row
-    row-here = ap (λ o. unwrap_or o (blank spot.id)) value
+    row-here = ap (λ o. unwrap_or o (some_job spot.id)) value
 
     pub row-read : row ≡ get_or (rows_of slab spots) at row
     row-read = sym (get_or-map (row_at slab) spots at spot row within ∙ (ap (row_at slab) (sym read) ∙ row-here))
@@ -112,12 +112,12 @@ module _ (slab : Slab JobRow) (spots : List IdSpot) (placed : IsPlaced slab spot
               get_or-map (row_at written) spots j spot new lt_spots in
               elim (cases_eq j at) [
                 | inl equal ↦
-                    let here : row_at written spot ≡ new = ap (λ o. unwrap_or o (blank spot.id)) updates.changed in
+                    let here : row_at written spot ≡ new = ap (λ o. unwrap_or o (some_job spot.id)) updates.changed in
                     let same : get_or spots j spot ≡ spot = ap (λ n. get_or spots n spot) equal ∙ sym read in
                     read_new ∙ (ap (row_at written) same ∙ (here ∙ sym (get_or-set_at (rows_of slab spots) at j new new equal inside)))
                 | inr differs ↦
                     let same : row_at written (get_or spots j spot) ≡ row_at slab (get_or spots j spot) =
-                    ap (λ o. unwrap_or o (blank (get_or spots j spot).id)) (others j spot lt_spots differs) in
+                    ap (λ o. unwrap_or o (some_job (get_or spots j spot).id)) (others j spot lt_spots differs) in
                     let old : get_or (rows_of slab spots) j new ≡ row_at slab (get_or spots j spot) = get_or-map (row_at slab) spots j spot new lt_spots in
                     read_new ∙ (same ∙ (sym old ∙ sym (get_or-set_other (rows_of slab spots) at j new new differs)))
               ]
@@ -197,7 +197,7 @@ module _ (old new : Slab JobRow) (place : ℕ) (row : JobRow) (vacant : get old 
 
     pub rows-pushed : rows_of new (spots ++ spot ∷ []) ≡ rows_of old spots ++ row ∷ []
     rows-pushed =
-        let here : row_at new spot ≡ row = ap (λ o. unwrap_or o (blank row.id)) updates.changed in
+        let here : row_at new spot ≡ row = ap (λ o. unwrap_or o (some_job row.id)) updates.changed in
         let rest = rows-same old new spots (λ j d lt. kept (get_or spots j d) (placed.leads j d lt)) in
         map-append (row_at new) spots (spot ∷ []) ∙ rw (here, rest) refl
 

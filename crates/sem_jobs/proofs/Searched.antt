@@ -13,7 +13,7 @@ use Rattle.sem_msg.specs.JobRows.{job_of, ids_of}
 use Rattle.sem_key.proofs.OnePasses.{find-none}
 use Rattle.sem_jobs.specs.declared.spot.IdSpot.{IdSpot}
 use Rattle.sem_jobs.specs.JobStore.{HasRisingIds, IsPlaceOf}
-use Rattle.sem_jobs.specs.Stored.{blank, row_at, rows_of, IsPlaced}
+use Rattle.sem_jobs.specs.Stored.{some_job, row_at, rows_of, IsPlaced}
 use Rattle.sem_jobs.proofs.JobPlaces.{ids-rise}
 use Rattle.sem_jobs.proofs.Places.{length-rows, row-id}
 
@@ -28,9 +28,9 @@ module _ (slab : Slab JobRow) (spots : List IdSpot) (next : ℕ) (stored : HasRi
 
   spots-rise : (i k : ℕ) (s : IdSpot) → i < k → k < length spots → (get_or spots i s).id < (get_or spots k s).id
   spots-rise i k s lt within = rw (
-    ← id-same i (blank 0) s (omega arith),
-    ← id-same k (blank 0) s within,
-  ) (ids-rise (rows_of slab spots) next stored.0 i k (blank 0) lt (omega (arith, length-rows slab spots, within)))
+    ← id-same i (some_job 0) s (omega arith),
+    ← id-same k (some_job 0) s within,
+  ) (ids-rise (rows_of slab spots) next stored.0 i k (some_job 0) lt (omega (arith, length-rows slab spots, within)))
 
   -- A binary search by ids ends at the job, or where it would stand.
   module _ (j : ℕ) where

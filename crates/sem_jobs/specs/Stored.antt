@@ -7,12 +7,12 @@ use Rattle.sem_jobs.specs.declared.spot.IdSpot.{IdSpot}
 use Rattle.sem_jobs.specs.JobStore.{new_job}
 
 -- some job of that id
-abbrev pub blank : ℕ → JobRow
-blank id = new_job id (record { pe = 0; vpe = 0; kind = Serv; number = 0 }) None []
+abbrev pub some_job : ℕ → JobRow
+some_job id = new_job id (record { pe = 0; vpe = 0; kind = Serv; number = 0 }) None []
 
 -- the job that a spot leads to; no spot of a store leads to an empty place
 abbrev pub row_at : Slab JobRow → IdSpot → JobRow
-row_at slab spot = unwrap_or (get slab spot.place) (blank spot.id)
+row_at slab spot = unwrap_or (get slab spot.place) (some_job spot.id)
 
 -- the jobs that the spots lead to, in order
 abbrev pub rows_of : Slab JobRow → List IdSpot → List JobRow

@@ -17,6 +17,7 @@ use Rattle.sem_msg.specs.Rows.{VpeRow, no_vpe}
 use Rattle.sem_msg.specs.VpeRows
 use Rattle.sem_msg.specs.Setup.{Setup, IsSetup}
 use Rattle.sem_msg.specs.Lookups.{kernel_of, calls_of}
+use Rattle.sem_vpe.specs.VpeTable.{slot_key}
 use Rattle.sem_machine.specs.Sides.{Side, row, slot, call_counted, with_inbox}
 use Rattle.sem_machine.specs.Steps.{Step, plain}
 use Rattle.sem_machine.specs.Calls.{call_row}
@@ -25,7 +26,7 @@ use Rattle.sem_machine.specs.Sound.{IsSound, ids_owed, ids_paid}
 use Rattle.sem_machine.specs.Machine.{next_call, local_step, detail_of}
 use Rattle.sem_sound.proofs.Changing.{counted-sound, counted-pays}
 use Rattle.sem_kernel.specs.declared.stores.Stores.{Stores}
-use Rattle.sem_kernel.specs.Rooms.{called_parent, linked_parent, slot_key}
+use Rattle.sem_kernel.specs.Rooms.{called_parent, linked_parent}
 use Rattle.sem_kernel.specs.Acting.{DoesAct}
 
 -- a call that is counted leaves the selectors and the asks

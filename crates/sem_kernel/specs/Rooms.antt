@@ -4,22 +4,17 @@ use Rattle.std.specs.Prelude.{if◌then◌else◌, vec_capacity, slice_get, Opti
 use Rattle.std.specs.Option.{option_map, option_map_or, option_and_then}
 use Rattle.sem_machine.specs.Prelude.{KeyName, Capability, Call, Derive, Gate, Revoke, Exit, Clear, Act, Calls, Fetch}
 use Rattle.sem_machine.specs.Prelude.{Handle, Upcall, Resume, Flush, Kill, Message, RevokeReq, Ask, ObtainAsk}
-use Rattle.sem_machine.specs.Prelude.{DelegateAsk, Parked, DelegateReady, Slot, Free, Held, Promised, Setup, Side}
+use Rattle.sem_machine.specs.Prelude.{DelegateAsk, Parked, DelegateReady, Setup, Side}
 use Rattle.sem_machine.specs.Prelude.{row, slot, parked}
 use Rattle.sem_key.specs.CapList.{link_count}
 use Rattle.sem_caps.specs.CapStore.{held_key}
+use Rattle.sem_vpe.specs.VpeTable.{slot_key}
 use Rattle.sem_machine.specs.Upcalls.{source}
 use Rattle.sem_machine.specs.Machine.{next_call}
 use Rattle.sem_kernel.specs.declared.stores.Stores.{Stores}
 use Rattle.sem_kernel.specs.KernelStores.{side_of}
 
 -- The capability that a step may link a child to.
-
--- the key that a slot holds
-abbrev pub slot_key : Slot → Option KeyName
-slot_key Free = None
-slot_key (Held k) = Some k
-slot_key Promised = None
 
 -- by a call
 abbrev pub called_parent : Side → ℕ → Call → Option KeyName

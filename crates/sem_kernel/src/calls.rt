@@ -1,10 +1,11 @@
 // The calls of a VPE on the stores of its kernel.
 ghost use Rattle.std.specs.Prelude.{◌<◌};
+ghost use Rattle.sem_vpe.specs.VpeTable.{slot_key};
 ghost use Rattle.sem_machine.specs.Sides.{slot};
 ghost use Rattle.sem_machine.specs.Calls.{delegate_row, gate_row, obtain_row, open_row, offer_row};
 ghost use Rattle.sem_kernel.specs.KernelStores.{side_of};
 ghost use Rattle.sem_kernel.specs.Handing.{CanCall, HasCalled};
-ghost use Rattle.sem_kernel.specs.Rooms.{HasRoom, slot_key};
+ghost use Rattle.sem_kernel.specs.Rooms.{HasRoom};
 
 use crate::stores::Stores;
 use sem_delegate::delegate_call;

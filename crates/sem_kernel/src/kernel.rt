@@ -103,8 +103,8 @@ impl Kernel {
         ensures { result ≡ (is_locally_enabled self.now.setup self.now.id self.now.side act
             && is_timely_lem self.now.setup replies act) }
     {
-        self.stores.is_enabled(self.setup.get(), self.id, act)
-            && is_timely(self.setup.get(), replies, act)
+        is_timely(self.setup.get(), replies, act)
+            && self.stores.is_enabled(self.setup.get(), self.id, act)
     }
 
     /// Whether a message is in the inbox.

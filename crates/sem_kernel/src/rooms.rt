@@ -4,7 +4,7 @@ ghost use Rattle.std.specs.Prelude.{OnErr};
 ghost use Rattle.std.specs.Option.{option_and_then};
 ghost use Rattle.sem_msg.specs.Lookups.{kernel_of as kernel_of_lem};
 ghost use Rattle.sem_machine.specs.Machine.{is_locally_enabled};
-ghost use Rattle.sem_machine.specs.Sides.{parked, row, slot};
+ghost use Rattle.sem_machine.specs.Sides.{parked, row};
 ghost use Rattle.sem_kernel.specs.KernelStores.{side_of, AreStoresOf, AreSound};
 ghost use Rattle.sem_kernel.specs.Rooms.{IsReady, HasGrown, HasSameStores, HasRoomToRevoke};
 ghost use Rattle.sem_kernel.specs.Rooms.{asked_parent as asked_parent_lem};
@@ -15,11 +15,11 @@ ghost use Rattle.sem_kernel.specs.Rooms.{opens_jobs as opens_jobs_lem};
 ghost use Rattle.sem_kernel.specs.Rooms.{is_revoking as is_revoking_lem};
 ghost use Rattle.sem_kernel.specs.Rooms.{only_moves as only_moves_lem};
 ghost use Rattle.sem_kernel.specs.Rooms.{is_request as is_request_lem};
-ghost use Rattle.sem_kernel.specs.Rooms.{ended_asks as ended_asks_lem, slot_key as slot_key_lem};
+ghost use Rattle.sem_kernel.specs.Rooms.{ended_asks as ended_asks_lem};
 
 use crate::stores::Stores;
 use sem_key::{Key, OutOfMemory};
-use sem_msg::{Act, Ask, Call, Message, Parked, Setup, Slot};
+use sem_msg::{Act, Ask, Call, Message, Parked, Setup};
 use sem_obtain::source;
 
 impl Stores {
@@ -110,9 +110,7 @@ impl Stores {
         ensures { result ≡ called_parent_lem (side_of self.now) vpe call }
     {
         match call {
-            Call::Derive { src, .. } | Call::Gate { src, .. } => {
-                slot_key(&self.vpes.selector(vpe, src))
-            }
+            Call::Derive { src, .. } | Call::Gate { src, .. } => self.vpes.held_key(vpe, src),
             _ => None,
         }
     }
@@ -192,16 +190,6 @@ fn is_request(message: &Message) -> bool
     ensures { result ≡ is_request_lem message.now }
 {
     matches!(message, Message::RevokeReq { .. })
-}
-
-// The key that a slot holds.
-fn slot_key(slot: &Slot) -> Option<Key>
-    ensures { result ≡ slot_key_lem slot.now }
-{
-    match slot {
-        Slot::Held(key) => Some(*key),
-        Slot::Free | Slot::Promised => None,
-    }
 }
 
 // The capability that a call in that state may link a child to.

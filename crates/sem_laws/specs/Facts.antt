@@ -24,7 +24,7 @@ RestsWhenIdle T J = IsIdle (world_after T J) → IsAtRest T J (world_after T J)
 
 -- at most 21 entries for each call and one for each kill, and nothing is enabled after as many as a
 -- run may have
-pub record IsBounded (T : Setup) (J : List Entry) : Type 0 where
+pub record IsWithinBound (T : Setup) (J : List Entry) : Type 0 where
   pub by_journal : length J ≤ 21 * calls_made J + kills_made J
   pub by_setup : length J ≤ 21 * call_count T + kill_count T
   pub spent : entry_limit T ≤ length J → IsQuiet T (world_after T J)

@@ -1,2 +1,2 @@
-pub mod Always
+pub mod Every
 pub mod Facts

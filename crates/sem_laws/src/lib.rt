@@ -2,11 +2,11 @@
 #![tactic(auto)]
 
 ghost use Rattle.sem_machine.specs.Safety.{IsSafe};
+ghost use Rattle.sem_machine.specs.Schedules.{Always};
 ghost use Rattle.sem_bytes.specs.Owning.{AccessesAreOwned};
 ghost use Rattle.sem_fs.specs.Laws.{OfFiles, commands_succeed, closed_are_gone};
-ghost use Rattle.sem_laws.specs.Always.{Always};
-ghost use Rattle.sem_laws.specs.Always.{ForEveryJournal, ForEverySchedule, ForEveryFirstVersion};
-ghost use Rattle.sem_laws.specs.Facts.{RestsWhenIdle, IsBounded, IsPaidByCalls, CountsMessages};
+ghost use Rattle.sem_laws.specs.Every.{ForEveryJournal, ForEverySchedule, ForEveryFirstVersion};
+ghost use Rattle.sem_laws.specs.Facts.{RestsWhenIdle, IsWithinBound, IsPaidByCalls, CountsMessages};
 ghost use Rattle.sem_laws.specs.Facts.{IsScheduleByParts, IsToldByParts};
 ghost use Rattle.sem_laws.specs.Facts.{RunsAsSecondVersion, IsToldByLives, IsExplained};
 
@@ -28,7 +28,7 @@ pub fn idle()
 
 /// A schedule has at most 21 entries for each of its calls and one for each of its kills.
 pub fn bounded()
-    ensures { Always IsBounded }
+    ensures { Always IsWithinBound }
 {
     sem_bound::bounds::bounded();
 }

@@ -7,7 +7,7 @@ use Rattle.sem_msg.specs.declared.event.Act.TheVariants.{Fetch}
 use Rattle.sem_msg.specs.declared.entry.Detail.{Detail}
 use Rattle.sem_msg.specs.declared.entry.Detail.TheVariants.{Carried}
 use Rattle.sem_msg.specs.declared.entry.Entry.{Entry}
-use Rattle.sem_msg.specs.Prelude.{Setup}
+use Rattle.sem_msg.specs.Setup.{Setup, IsSetup}
 use Rattle.sem_machine.specs.Sides.{Side}
 use Rattle.sem_machine.specs.Machine.{World, start, start_side, after, entry_of, is_enabled, is_locally_enabled}
 use Rattle.sem_machine.specs.Machine.{local_step, local_entry}
@@ -20,6 +20,10 @@ IsRun T W (e ∷ es) = (is_enabled T W e.event ≡ true) × (e ≡ entry_of T W 
 -- a journal that the machine can make from the start
 abbrev pub IsSchedule : Setup → List Entry → Type 0
 IsSchedule T J = IsRun T (start T) J
+
+-- the statement holds of every setup and each of its schedules
+abbrev pub Always : (Setup → List Entry → Type 0) → Type 0
+Always P = (T : Setup) → IsSetup T → (J : List Entry) → IsSchedule T J → P T J
 
 -- the world after the events of the entries
 abbrev pub run : Setup → World → List Entry → World

@@ -14,7 +14,7 @@ ghost use Rattle.sem_machine.specs.Revokes.{begin, finished, opened};
 ghost use Rattle.sem_mark.specs.Marking.{HasSpace, LeadsHome, owning, pausing, revoking};
 
 use crate::opening::{done_job, open_job};
-use crate::owned::{own_cap, own_refusal};
+use crate::owned::own_refusal;
 use sem_caps::Caps;
 use sem_dtu::Dtus;
 use sem_jobs::{Jobs, Scratch};
@@ -77,7 +77,7 @@ pub fn revoke_call(
 {
     // Shows the proof that the VPE has a place.
     let _ = vpes.alive(vpe);
-    let Some(cap) = own_cap(caps, vpes, vpe, sel) else {
+    let Some(cap) = vpes.held_key(vpe, sel).and_then(|key| caps.get(key)) else {
         return (Outcome::answered(Code::NoCap), None);
     };
     let key = cap.key;
@@ -147,7 +147,7 @@ pub fn clear_call(
     if let Some(code) = own_refusal(caps, vpes, vpe, sel) {
         return (Outcome::answered(code), None);
     }
-    let Some(cap) = own_cap(caps, vpes, vpe, sel) else {
+    let Some(cap) = vpes.held_key(vpe, sel).and_then(|key| caps.get(key)) else {
         return (Outcome::answered(Code::NoCap), None);
     };
     let key = cap.key;

@@ -1,7 +1,6 @@
-ghost use Rattle.std.specs.Prelude.{◌≡◌, ◌≤◌, List, length};
-ghost use Rattle.sem_msg.specs.declared.entry.Entry.{Entry};
-ghost use Rattle.sem_msg.specs.Setup.{Setup, IsSetup};
-ghost use Rattle.sem_machine.specs.Schedules.{IsSchedule, world_after};
+ghost use Rattle.std.specs.Prelude.{◌≡◌, ◌≤◌, length};
+ghost use Rattle.sem_msg.specs.Setup.{IsSetup};
+ghost use Rattle.sem_machine.specs.Schedules.{Always, IsSchedule, world_after};
 ghost use Rattle.sem_machine.specs.Living.{IsIdle, IsQuiet};
 ghost use Rattle.sem_messages.specs.Messages.{sent, count_sent, messages_made};
 ghost use Rattle.sem_messages.specs.Messages.{grants_across, grants_told, IsAnswered};
@@ -16,30 +15,26 @@ ghost use Rattle.sem_messages.specs.EachKind.{each_kind, each_kind_journal};
 /// preparations as acknowledgements, and as many requests to revoke as replies that one is done.
 /// The law counts messages; it does not tie a reply to its request.
 pub fn requests_are_answered()
-    ensures answered { (T : Setup) → IsSetup T → (J : List Entry) → IsSchedule T J
-        → IsIdle (world_after T J) → IsAnswered J }
+    ensures answered { Always (λ T J. IsIdle (world_after T J) → IsAnswered J) }
 {}
 
 /// Then as many grants were made from one kernel to another as messages were sent that tell of one:
 /// an ObtainOk, or an Ack that accepts. The law does not tie a message to its grant.
 pub fn grants_are_told()
-    ensures told { (T : Setup) → IsSetup T → (J : List Entry) → IsSchedule T J
-        → IsIdle (world_after T J) → grants_across T J ≡ grants_told J }
+    ensures told { Always (λ T J. IsIdle (world_after T J) → grants_across T J ≡ grants_told J) }
 {}
 
 /// Then the requests and notices give the number of all messages. There are two for each obtain
 /// across kernels, two for each delegate and one more for each prepared one, two for each request
 /// to revoke, and one for each orphan and unlink.
 pub fn messages_are_counted()
-    ensures counted { (T : Setup) → IsSetup T → (J : List Entry) → IsSchedule T J
-        → IsIdle (world_after T J) → length (sent J) ≡ messages_made J }
+    ensures counted { Always (λ T J. IsIdle (world_after T J) → length (sent J) ≡ messages_made J) }
 {}
 
 /// After every schedule, idle or not, no more requests to revoke were sent than grants were made
 /// from one kernel to another.
 pub fn revokes_follow_grants()
-    ensures few { (T : Setup) → IsSetup T → (J : List Entry) → IsSchedule T J
-        → count_sent is_revoke_req J ≤ grants_across T J }
+    ensures few { Always (λ T J. count_sent is_revoke_req J ≤ grants_across T J) }
 {}
 
 /// The laws are not empty: a setup of two kernels has a schedule that sends messages of every kind,

@@ -17,7 +17,7 @@ use Rattle.sem_kernel.specs.KernelValue.{KernelValue}
 use Rattle.sem_kernel.specs.Worlds.{AreKernelsOf}
 use Rattle.sem_turn.specs.Passes.{PassValue, times, IsWhole}
 use Rattle.sem_parts.specs.Parts.{RunsTo}
-use Rattle.sem_parts.specs.Standing.{StandAt}
+use Rattle.sem_parts.specs.SidesAfter.{AreSidesAfter}
 use Rattle.sem_parts.proofs.Shapes.{stand-schedule, stand-world}
 use Rattle.sem_node.specs.Running.{HasRun}
 use Rattle.sem_node.specs.Ending.{HaveRun}
@@ -70,7 +70,7 @@ module _ (T : Setup) (ls : List KernelValue) (f : FabricValue) (whole : IsWhole 
     fabric = record { kernels = whole.agrees.same_kernels; window = whole.agrees.same_window; kills = whole.agrees.same_kills };
   }
 
-  stand : StandAt T (map (λ (k : KernelValue). k.side) ls) f
+  stand : AreSidesAfter T (map (λ (k : KernelValue). k.side) ls) f
   stand = record {
     count = sides-count ls ∙ count;
     square = whole.square;

@@ -111,6 +111,16 @@ impl<N: RunName> KernelCell<N> {
         self.kernel.enabled(act, u64::MAX)
     }
 
+    /// Whether a message is in the kernel's inbox.
+    pub fn is_handling(&self) -> bool {
+        self.kernel.is_handling()
+    }
+
+    /// The kernels for which messages wait to be sent, a bit for each.
+    pub fn filled(&self) -> u32 {
+        self.kernel.filled()
+    }
+
     /// Whether the VPE, one of this kernel, has ended.
     pub fn has_ended(&self, caller: &Caller<N>) -> bool {
         self.kernel.id() == caller.kernel && !self.kernel.is_alive(caller.vpe)

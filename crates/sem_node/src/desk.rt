@@ -1,10 +1,9 @@
 // What other threads tell the dispatcher of a kernel.
-ghost use Rattle.std.specs.Prelude.{◌≡◌, IfOk};
+ghost use Rattle.std.specs.Prelude.{◌≡◌};
 
 use crate::bell::Bell;
-use sem_key::OutOfMemory;
-use std::alloc::Global;
-use std::sync::atomic::{AtomicBool, Ordering};
+use sem_msg::with_bit;
+use std::sync::atomic::{AtomicBool, AtomicU32, Ordering};
 
 /// A kill of the setup.
 #[derive(Drop)]
@@ -37,58 +36,45 @@ impl Due {
 #[derive(Drop)]
 pub struct Desk {
     pub bell: Bell,
-    // Whether the link from each kernel may hold a message.
-    mail: Vec<AtomicBool>,
-    // Whether the link to each kernel was full when last tried, with no fetch since.
-    full: Vec<AtomicBool>,
+    // The kernels whose link to this one may hold a message, a bit for each.
+    mail: AtomicU32,
+    // The kernels to which the link was full when last tried, with no fetch since.
+    full: AtomicU32,
     // The kills of VPEs of the kernel.
     pub kills: Vec<Due>,
 }
 
-// That many flags, none of them set.
-fn flags(alloc: Global, count: u32) -> Result<Vec<AtomicBool>, OutOfMemory> {
-    let mut flags = Vec::new(alloc);
-    for _ in 0..count {
-        flags.push(AtomicBool::new(false))?;
-    }
-    Ok(flags)
-}
-
-fn is_set(flags: &[AtomicBool], kernel: u32) -> bool {
-    match flags.get(kernel as usize) {
-        Some(flag) => flag.load(Ordering::SeqCst),
-        None => false,
-    }
-}
-
-// Sets or clears the flag of the kernel.
-fn set(flags: &[AtomicBool], kernel: u32, value: bool) {
-    if let Some(flag) = flags.get(kernel as usize) {
-        flag.store(value, Ordering::SeqCst);
+// Sets or clears the bit of the kernel.
+fn set(mask: &AtomicU32, kernel: u32, value: bool) {
+    let bit = with_bit(0, kernel, true);
+    if value {
+        mask.fetch_or(bit, Ordering::SeqCst);
+    } else {
+        mask.fetch_and(!bit, Ordering::SeqCst);
     }
 }
 
 impl Desk {
-    /// The desk of a kernel among that many, with the kills of its VPEs.
-    pub fn new(alloc: Global, kernels: u32, kills: Vec<Due>) -> Result<Self, OutOfMemory>
-        ensures { IfOk result (λ desk. desk.kills ≡ kills) }
+    /// The desk of a kernel, with the kills of its VPEs.
+    pub fn new(kills: Vec<Due>) -> Self
+        ensures { result.kills ≡ kills }
     {
-        Ok(Desk {
+        Desk {
             bell: Bell::new(),
-            mail: flags(alloc, kernels)?,
-            full: flags(alloc, kernels)?,
+            mail: AtomicU32::new(0),
+            full: AtomicU32::new(0),
             kills,
-        })
+        }
     }
 
-    /// Whether the link from that kernel may hold a message.
-    pub fn has_mail(&self, from: u32) -> bool {
-        is_set(&self.mail, from)
+    /// The kernels whose link to this one may hold a message, a bit for each.
+    pub fn mail(&self) -> u32 {
+        self.mail.load(Ordering::SeqCst)
     }
 
-    /// Whether the link to that kernel was full.
-    pub fn is_full(&self, to: u32) -> bool {
-        is_set(&self.full, to)
+    /// The kernels to which the link was full, a bit for each.
+    pub fn full(&self) -> u32 {
+        self.full.load(Ordering::SeqCst)
     }
 
     /// The link from that kernel is being looked at now, or still holds a message.

@@ -85,6 +85,16 @@ impl Gated {
         self.kernel.enabled(act, replies)
     }
 
+    /// Whether a message is in the kernel's inbox.
+    pub fn is_handling(&self) -> bool {
+        self.kernel.is_handling()
+    }
+
+    /// The kernels for which messages wait to be sent, a bit for each.
+    pub fn filled(&self) -> u32 {
+        self.kernel.filled()
+    }
+
     /// Whether the VPE, one of this kernel, is alive.
     pub fn is_alive(&self, vpe: u16) -> bool
         requires { kernel_of self.now.setup vpe ≡ self.now.id }

@@ -6,8 +6,8 @@ use crate::cell::{Caller, KernelCell, Progress};
 use crate::desk::Desk;
 use crate::gate::Gate;
 use crate::shared::Run;
-use sem_key::OutOfMemory;
-use sem_msg::Act;
+use sem_key::{KERNELS, OutOfMemory};
+use sem_msg::{Act, with_bit, without};
 use sem_turn::RunName;
 use std::sync::atomic::Ordering;
 use std::sync::{Mutex, Wait};
@@ -52,18 +52,26 @@ fn call_act(vpe: u16, open: bool) -> Act
     }
 }
 
-// A flush to the kernel, or a fetch from it, that the kernel and its desk allow as far as they can
-// tell; none if there is none.
-fn link_act<N: RunName>(cell: &KernelCell<N>, desk: &Desk, peer: u32) -> Option<Act> {
-    let flush = Act::Flush { to: peer };
-    if !desk.is_full(peer) && cell.can(flush) {
-        return Some(flush);
+// The first kernel with a bit in the mask, from that one on and then from 0.
+fn first_from(mask: u32, first: u32) -> Option<u32> {
+    if mask == 0 {
+        return None;
     }
-    let fetch = Act::Fetch { from: peer };
-    if desk.has_mail(peer) && cell.can(fetch) {
-        return Some(fetch);
+    let after = mask.rotate_right(first).trailing_zeros();
+    Some(first.wrapping_add(after) % KERNELS)
+}
+
+// A flush or a fetch that the kernel and its desk allow as far as they can tell; none if there is
+// none. The links are looked at from that kernel on.
+fn link_act<N: RunName>(cell: &KernelCell<N>, desk: &Desk, first: u32) -> Option<Act> {
+    let flushes = without(cell.filled(), desk.full());
+    let fetches = if cell.is_handling() { 0 } else { desk.mail() };
+    let peer = first_from(flushes | fetches, first)?;
+    if without(with_bit(0, peer, true), flushes) == 0 {
+        Some(Act::Flush { to: peer })
+    } else {
+        Some(Act::Fetch { from: peer })
     }
-    None
 }
 
 // The same for a kill.
@@ -77,30 +85,13 @@ fn kill_act<N: RunName>(cell: &KernelCell<N>, desk: &Desk) -> Option<Act> {
     None
 }
 
-// The same for all three; the links are looked at from that kernel on.
-fn turn_act<N: RunName>(
-    cell: &KernelCell<N>,
-    desk: &Desk,
-    kernels: u32,
-    first: u32,
-) -> Option<Act> {
+// The same for all three.
+fn turn_act<N: RunName>(cell: &KernelCell<N>, desk: &Desk, first: u32) -> Option<Act> {
     let kill = kill_act(cell, desk);
     if kill.is_some() {
         return kill;
     }
-    for peer in first..kernels {
-        let act = link_act(cell, desk, peer);
-        if act.is_some() {
-            return act;
-        }
-    }
-    for peer in 0..first {
-        let act = link_act(cell, desk, peer);
-        if act.is_some() {
-            return act;
-        }
-    }
-    None
+    link_act(cell, desk, first)
 }
 
 // The other kernel of the act, or that one if it has none.
@@ -178,11 +169,14 @@ impl<N: RunName> Node<N> {
             tell(run, self.id, news_of(progress));
             return Ok(Some(peer));
         }
-        let Some(act) = turn_act(&cell, desk, run.kernels(), peer) else {
+        let Some(act) = turn_act(&cell, desk, peer) else {
             return Ok(None);
         };
         let news = self.act_within(rt, run, gate, desk, &mut cell, act)?;
-        self.mark(&cell);
+        // A fetch and a flush only move a message, so no call can go on after them.
+        if matches!(act, Act::Kill { .. }) {
+            self.mark(&cell);
+        }
         drop(cell);
         self.ring();
         tell(run, self.id, news);
@@ -337,7 +331,7 @@ impl<N: RunName> Node<N> {
         let desk = run.desk(self.id)?;
         let act = match self.own_act(cell) {
             Some(act) => Some(act),
-            None => turn_act(cell, desk, run.kernels(), 0),
+            None => turn_act(cell, desk, 0),
         };
         act.map(|_act| desk)
     }

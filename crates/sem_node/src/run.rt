@@ -9,7 +9,7 @@ ghost use Rattle.sem_machine.specs.Schedules.{IsSchedule, world_after};
 ghost use Rattle.sem_fabric.specs.Fabrics.{new_fabric};
 ghost use Rattle.sem_kernel.specs.Worlds.{world_of, AreKernelsOf, booted as booted_lem};
 ghost use Rattle.sem_kernel.specs.Owning.{own_rows};
-ghost use Rattle.sem_parts.specs.Standing.{StandAt};
+ghost use Rattle.sem_parts.specs.SidesAfter.{AreSidesAfter};
 ghost use Rattle.sem_node.specs.Running.{HasRun};
 ghost use Rattle.sem_node.specs.Ending.{HaveRun};
 ghost use Rattle.sem_node.specs.Own.{own_kill, own_kills};
@@ -87,7 +87,7 @@ fn push_kill(
 fn desks_of(alloc: Global, setup: &Setup) -> Result<Vec<Desk>, OutOfMemory> {
     let mut desks = Vec::new(alloc);
     for id in 0..setup.kernels {
-        desks.push(Desk::new(alloc, setup.kernels, kills_of(alloc, setup, id)?)?)?;
+        desks.push(Desk::new(kills_of(alloc, setup, id)?))?;
     }
     Ok(desks)
 }
@@ -212,7 +212,7 @@ fn run_named<N: RunName + Send + Sync, R: Threads + Wait + Sync, G: Gate + Sync>
     let passes = turn.split(alloc, first, setup.kernels)?;
     let nodes = nodes_of(alloc, kernels, passes)?;
     let desks = desks_of(alloc, setup)?;
-    let run = Run::new(turn, desks, setup.kernels, setup.vpes.len() as u64);
+    let run = Run::new(turn, desks, setup.vpes.len() as u64);
     run_all(rt, &run, nodes.as_slice(), gate);
     let (mut kernels, passes) = taken_out(alloc, nodes)?;
     let fabric = run.into_turn().close(passes);
@@ -239,7 +239,7 @@ pub fn run_threads<R: Threads + Wait + Sync, G: Gate + Sync>(
     ensures together { IfOk result (λ r. AreKernelsOf setup.now r.0.items r.1) }
     ensures schedule { IfOk result (λ r. IsSchedule setup.now r.1.journal) }
     ensures world { IfOk result (λ r. world_of r.0.items r.1 ≡ world_after setup.now r.1.journal) }
-    ensures parts { IfOk result (λ r. StandAt setup.now (map (λ k. k.side) r.0.items) r.1) }
+    ensures parts { IfOk result (λ r. AreSidesAfter setup.now (map (λ k. k.side) r.0.items) r.1) }
 {
     let opened = Opened::new(alloc, setup, fabric)?;
     run_named::<Brand, R, G>(rt, alloc, setup, opened, kernels, gate)

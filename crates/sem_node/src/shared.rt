@@ -10,7 +10,6 @@ pub struct Run<N: RunName> {
     turn: Turn<N>,
     // The desks, by kernel.
     desks: Vec<Desk>,
-    kernels: u32,
     // Whether the threads should end, whatever is left to do.
     stopped: AtomicBool,
     // How many VPEs still make calls.
@@ -18,12 +17,11 @@ pub struct Run<N: RunName> {
 }
 
 impl<N: RunName> Run<N> {
-    /// A run of that many kernels, with `calling` VPEs that make calls.
-    pub fn new(turn: Turn<N>, desks: Vec<Desk>, kernels: u32, calling: u64) -> Self {
+    /// A run with `calling` VPEs that make calls.
+    pub fn new(turn: Turn<N>, desks: Vec<Desk>, calling: u64) -> Self {
         Run {
             turn,
             desks,
-            kernels,
             stopped: AtomicBool::new(false),
             calling: AtomicU64::new(calling),
         }
@@ -31,10 +29,6 @@ impl<N: RunName> Run<N> {
 
     pub fn turn(&self) -> &Turn<N> {
         &self.turn
-    }
-
-    pub fn kernels(&self) -> u32 {
-        self.kernels
     }
 
     /// The desk of the kernel.
@@ -81,7 +75,6 @@ impl<N: RunName> Run<N> {
         let Run {
             turn,
             desks: _,
-            kernels: _,
             stopped: _,
             calling: _,
         } = self;

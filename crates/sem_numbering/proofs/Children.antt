@@ -11,7 +11,7 @@ use Rattle.std.proofs.lemmas.List.Elements.{All-contains}
 use Rattle.sem_msg.specs.declared.message.Message.{Message}
 use Rattle.sem_msg.specs.declared.event.Event.{Event}
 use Rattle.sem_msg.specs.declared.entry.Entry.{Entry}
-use Rattle.sem_numbering.specs.Nodes.{Node, IsMadeBy, IsMissing, HasMore, AreChildren}
+use Rattle.sem_numbering.specs.Nodes.{Node, IsMadeBy, HasNoNode, HasMore, AreChildren}
 
 -- what none but an empty list has
 none-past : (cs : List (List ℕ)) (i k : ℕ) → length cs ≤ i → Contains (get_or cs i []) k → ⊥
@@ -80,7 +80,7 @@ abbrev pub Others : List Node → ℕ → Event → Option Message → List ℕ 
 Others nodes from by input places = All (λ k. (e : Entry) → IsMadeBy by input e → slice_get nodes k ≡ Some (from, e) → ⊥) places
 
 pub missing : (nodes : List Node) (cs : List (List ℕ)) → AreChildren nodes cs → (from : ℕ) (by : Event) (input : Option Message) →
-    Others nodes from by input (get_or cs from []) → IsMissing nodes from by input
+    Others nodes from by input (get_or cs from []) → HasNoNode nodes from by input
 missing nodes cs are from by input none e made among =
     let (k, inside, here) = node-among nodes cs are from e among in
     All-contains (λ k. (x : Entry) → IsMadeBy by input x → slice_get nodes k ≡ Some (from, x) → ⊥) (get_or cs from []) k none inside e made here

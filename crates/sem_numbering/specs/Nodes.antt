@@ -15,20 +15,20 @@ pub record IsMadeBy (by : Event) (input : Option Message) (e : Entry) : Type 0 w
 
 -- the node at that place goes on from that part by an entry of the event, with that message if it
 -- is a fetch
-pub record IsNode (nodes : List Node) (from : ℕ) (by : Event) (input : Option Message) (place : ℕ) : Type 0 where
+pub record IsNodeAt (nodes : List Node) (from : ℕ) (by : Event) (input : Option Message) (place : ℕ) : Type 0 where
   pub entry : Entry
   pub node : slice_get nodes place ≡ Some (from, entry)
   pub made : IsMadeBy by input entry
 
 -- part n is that of such a node
-pub record IsFound (nodes : List Node) (from : ℕ) (by : Event) (input : Option Message) (n : ℕ) : Type 0 where
+pub record IsFoundPart (nodes : List Node) (from : ℕ) (by : Event) (input : Option Message) (n : ℕ) : Type 0 where
   pub place : ℕ
   pub number : n ≡ place + 1
-  pub node : IsNode nodes from by input place
+  pub node : IsNodeAt nodes from by input place
 
 -- no such node exists
-abbrev pub IsMissing : List Node → ℕ → Event → Option Message → Type 0
-IsMissing nodes from by input = (e : Entry) → IsMadeBy by input e → Contains nodes (from, e) → ⊥
+abbrev pub HasNoNode : List Node → ℕ → Event → Option Message → Type 0
+HasNoNode nodes from by input = (e : Entry) → IsMadeBy by input e → Contains nodes (from, e) → ⊥
 
 -- no part has lost a child
 pub record HasMore (old new : List (List ℕ)) : Type 0 where

@@ -3,7 +3,7 @@ ghost use Rattle.std.specs.Prelude.{length, map, slice_get, slice_index_or, Some
 ghost use Rattle.std.specs.Prelude.{IfOk, IfSome, IfNone, OnOk, OnErr};
 ghost use Rattle.sem_msg.specs.declared.entry.Entry.{Entry as EntryData};
 ghost use Rattle.sem_machine.specs.Schedules.{carried_in};
-ghost use Rattle.sem_numbering.specs.Nodes.{IsMadeBy, IsNode, IsFound, IsMissing, HasMore};
+ghost use Rattle.sem_numbering.specs.Nodes.{IsMadeBy, IsNodeAt, IsFoundPart, HasNoNode, HasMore};
 
 use sem_key::OutOfMemory;
 use sem_msg::{Act, Detail, Entry, Event, Message, same_message};
@@ -49,8 +49,8 @@ impl PartTree {
     /// message if it is a fetch; none if there is no such part.
     pub fn find(&self, from: u32, event: Event, message: &Option<Message>) -> Option<u32>
         requires { from ≤ length self.now }
-        ensures there { IfSome result (IsFound self.now from event message.now) }
-        ensures none { IfNone result (IsMissing self.now from event message.now) }
+        ensures there { IfSome result (IsFoundPart self.now from event message.now) }
+        ensures none { IfNone result (HasNoNode self.now from event message.now) }
     {
         let children = &self.children[from as usize];
         find_node(
@@ -123,7 +123,7 @@ fn find_node(
     message: &Option<Message>,
 ) -> Option<u32>
     requires { length nodes.now < 2 ^ 32 }
-    ensures there { IfSome result (IsFound nodes.now from event message.now) }
+    ensures there { IfSome result (IsFoundPart nodes.now from event message.now) }
     ensures none { IfNone result (All (λ k. (e : EntryData) → IsMadeBy event message.now e
         → slice_get nodes.now k ≡ Some (from, e) → ⊥) places.now) }
 {
@@ -144,7 +144,7 @@ fn is_node(
     event: Event,
     message: &Option<Message>,
 ) -> bool
-    ensures yes { IsTrue result → IsNode nodes.now from event message.now place }
+    ensures yes { IsTrue result → IsNodeAt nodes.now from event message.now place }
     ensures no { result ≡ false → (e : EntryData) → IsMadeBy event message.now e
         → slice_get nodes.now place ≡ Some (from, e) → ⊥ }
 {

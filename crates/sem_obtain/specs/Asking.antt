@@ -15,8 +15,9 @@ use Rattle.sem_machine.specs.Sides.{linked}
 use Rattle.sem_machine.specs.Upcalls.{given_here}
 
 -- the side with these VPEs, waiting calls and outboxes
-abbrev pub asking : VpeTable → List (Option Parked) → OutboxList → Side → Side
-asking vpes park outs s = with_vpes vpes.rows (with_parks park (with_outs outs.boxes s))
+abbrev pub with_vpes_parks_outs : VpeTable → List (Option Parked) → OutboxList → Side → Side
+with_vpes_parks_outs vpes park outs s =
+    with_vpes vpes.rows (with_parks park (with_outs outs.boxes s))
 
 -- the side with these capabilities and VPEs
 abbrev pub holding : CapStore → VpeTable → Side → Side
@@ -27,8 +28,10 @@ abbrev pub installing : CapStore → VpeTable → List (Option Parked) → Side 
 installing caps vpes park s = with_caps caps.caps (with_vpes vpes.rows (with_parks park s))
 
 -- the side with these capabilities, VPEs, waiting calls and outboxes
-abbrev pub giving : CapStore → VpeTable → List (Option Parked) → OutboxList → Side → Side
-giving caps vpes park outs s = with_caps caps.caps (asking vpes park outs s)
+abbrev pub with_caps_vpes_parks_outs :
+    CapStore → VpeTable → List (Option Parked) → OutboxList → Side → Side
+with_caps_vpes_parks_outs caps vpes park outs s =
+    with_caps caps.caps (with_vpes_parks_outs vpes park outs s)
 
 -- whether the asker is of kernel i and does not wait for the answer
 abbrev pub is_unawaited : Setup → ℕ → List (Option Parked) → PlaceName → Bool
@@ -55,9 +58,9 @@ pub record IsGivable (caps : CapStore) (c : Capability) : Type 0 where
   pub kind : c.key.kind ≡ object_kind c.object
 
 -- no capability has the number of the place, if the call that drew it waits
-abbrev pub IsFree : CapStore → List (Option Parked) → PlaceName → Type 0
-IsFree caps park place = is_obtain_wait place.number (state_of park place.vpe) ≡ true → (kind : Kind) →
-    cap_of caps.caps (keyed place kind) ≡ None
+abbrev pub IsUnusedNumber : CapStore → List (Option Parked) → PlaceName → Type 0
+IsUnusedNumber caps park place = is_obtain_wait place.number (state_of park place.vpe) ≡ true →
+    (kind : Kind) → cap_of caps.caps (keyed place kind) ≡ None
 
 -- the call of the VPE in that state can end: the key that it would install is one of the VPE and is
 -- not held

@@ -11,7 +11,7 @@ ghost use Rattle.sem_machine.specs.Asks.{target_vpe as target_vpe_lem};
 ghost use Rattle.sem_machine.specs.Sides.{Side};
 ghost use Rattle.sem_machine.specs.Handles.{handle_row};
 ghost use Rattle.sem_machine.specs.Stores.{with_vpes, with_parks, with_outs};
-ghost use Rattle.sem_obtain.specs.Asking.{asking};
+ghost use Rattle.sem_obtain.specs.Asking.{with_vpes_parks_outs};
 
 use crate::ends::{refuse_call, send_refusal};
 use sem_key::{Key, Object, Place};
@@ -46,8 +46,8 @@ pub fn obtain_answer(
     requires boxes { HasBoxes setup.now outs.old }
     requires spare { 0 < outs.old.spare }
     ensures row { (from : ℕ) (s : Side) →
-        asking vpes.now park.new outs.new s
-        ≡ handle_row setup.now kernel (asking vpes.now park.old outs.old s) from
+        with_vpes_parks_outs vpes.now park.new outs.new s
+        ≡ handle_row setup.now kernel (with_vpes_parks_outs vpes.now park.old outs.old s) from
         (ObtainOk parent key object) }
     ensures boxes { HasBoxes setup.now outs.new }
     ensures spare { outs.old.spare ≤ outs.new.spare + 1 }

@@ -13,7 +13,7 @@ ghost use Rattle.sem_obtain.specs.Asking.{holding};
 
 use sem_caps::Caps;
 use sem_key::{Cap, Key, Object, same_key};
-use sem_msg::{Service, Setup, Slot, Target};
+use sem_msg::{Service, Setup, Target};
 use sem_vpe::Vpes;
 
 fn service_named(setup: &Setup, name: u8) -> Option<&Service>
@@ -65,26 +65,13 @@ fn offered(setup: &Setup, key: Key, index: u8) -> Option<u8>
     offer_named(setup, index, service.name)
 }
 
-// The capability at a selector of the VPE; none if the selector holds none. The VPE must be of this
-// kernel.
-pub fn own_cap<'a>(caps: &'a Caps, vpes: &Vpes, vpe: u16, sel: u8) -> Option<&'a Cap>
-    requires { IsOurs vpes.now vpe }
-    ensures { option_map capability_of (option_copied result)
-        ≡ own (holding caps.now vpes.now no_side) vpe sel }
-{
-    match vpes.selector(vpe, sel) {
-        Slot::Held(key) => caps.get(key),
-        Slot::Free | Slot::Promised => None,
-    }
-}
-
 // The service of the session at a selector of the VPE.
 pub fn session_service(caps: &Caps, vpes: &Vpes, vpe: u16, sel: u8) -> Option<Key>
     requires { IsOurs vpes.now vpe }
     ensures { result ≡ option_and_then (λ c. session_service_lem c.object)
         (own (holding caps.now vpes.now no_side) vpe sel) }
 {
-    match own_cap(caps, vpes, vpe, sel)?.object {
+    match caps.get(vpes.held_key(vpe, sel)?)?.object {
         Object::Sess { service, .. } => Some(service),
         _ => None,
     }
@@ -104,11 +91,11 @@ pub fn source<'a>(
         ≡ source_lem setup.now (holding caps.now vpes.now no_side) vpe target.now }
 {
     match target {
-        Target::Sel { sel, .. } => own_cap(caps, vpes, vpe, *sel),
+        Target::Sel { sel, .. } => caps.get(vpes.held_key(vpe, *sel)?),
         Target::Serv { service } => caps.get(*service),
         Target::Offer { service, index } => {
             let sel = offered(setup, *service, *index)?;
-            own_cap(caps, vpes, vpe, sel)
+            caps.get(vpes.held_key(vpe, sel)?)
         }
     }
 }

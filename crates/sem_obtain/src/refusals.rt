@@ -9,7 +9,7 @@ ghost use Rattle.sem_machine.specs.Stores.{with_vpes};
 ghost use Rattle.sem_machine.specs.Upcalls.{source as source_lem, source_tests};
 ghost use Rattle.sem_obtain.specs.Asking.{holding};
 
-use crate::lookups::{own_cap, service_key, source};
+use crate::lookups::{service_key, source};
 use sem_caps::Caps;
 use sem_key::Object;
 use sem_msg::{Code, Setup, Target};
@@ -82,7 +82,7 @@ pub fn offer_refusal(
     ensures { result ≡ first_code
         (offer_tests setup.now kernel (holding caps.now vpes.now no_side) vpe dst session) }
 {
-    let Some(cap) = own_cap(caps, vpes, vpe, session) else {
+    let Some(cap) = vpes.held_key(vpe, session).and_then(|key| caps.get(key)) else {
         return Some(Code::NoCap);
     };
     if cap.mark.is_some() {

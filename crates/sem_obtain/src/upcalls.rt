@@ -17,7 +17,8 @@ ghost use Rattle.sem_machine.specs.Sides.{Side, no_side};
 ghost use Rattle.sem_machine.specs.Upcalls.{ask_decided, given as given_lem, given_here};
 ghost use Rattle.sem_machine.specs.Upcalls.{obtain_consent, source as source_lem};
 ghost use Rattle.sem_obtain.specs.Asking.{answer_to, is_unawaited as is_unawaited_lem, child_sent};
-ghost use Rattle.sem_obtain.specs.Asking.{giving, holding, installing, IsFree, IsGivable};
+ghost use Rattle.sem_obtain.specs.Asking.{holding, installing, with_caps_vpes_parks_outs};
+ghost use Rattle.sem_obtain.specs.Asking.{IsGivable, IsUnusedNumber};
 
 use crate::ends::refuse_ask;
 use crate::lookups::source;
@@ -50,14 +51,17 @@ pub fn obtain_upcall(
     requires target { IsValidTarget target }
     requires source { IfSome (source_lem setup.now (holding caps.old vpes.old no_side) vpe target)
         (IsGivable caps.old) }
-    requires free { IsFree caps.old park.old place }
+    requires free { IsUnusedNumber caps.old park.old place }
     requires spare { 0 < caps.old.spare }
     requires boxes { HasBoxes setup.now outs.old }
     requires messages { 0 < outs.old.spare }
     ensures row { (s : Side) →
-        record { side = giving caps.new vpes.new park.new outs.new s; outcome = result }
+        record {
+          side = with_caps_vpes_parks_outs caps.new vpes.new park.new outs.new s;
+          outcome = result;
+        }
         ≡ ask_decided setup.now kernel vpe (ObtainAsk place target)
-        (giving caps.old vpes.old park.old outs.old s) }
+        (with_caps_vpes_parks_outs caps.old vpes.old park.old outs.old s) }
     ensures ours { vpes.new.ours ≡ vpes.old.ours }
     ensures spare { caps.old.spare ≤ caps.new.spare + 1 }
     ensures boxes { HasBoxes setup.now outs.new }
@@ -135,11 +139,11 @@ fn consent(
     requires messages { 0 < outs.old.spare }
     ensures row { (s : Side) →
         record {
-          side = giving caps.new vpes.new park.new outs.new s;
+          side = with_caps_vpes_parks_outs caps.new vpes.new park.new outs.new s;
           outcome = record { asked = None; grant = result; cut = None; reply = None };
         }
         ≡ obtain_consent setup.now kernel vpe place target
-        (giving caps.old vpes.old park.old outs.old s) }
+        (with_caps_vpes_parks_outs caps.old vpes.old park.old outs.old s) }
     ensures ours { vpes.new.ours ≡ vpes.old.ours }
     ensures spare { caps.old.spare ≤ caps.new.spare + 1 }
     ensures boxes { HasBoxes setup.now outs.new }
@@ -192,9 +196,9 @@ fn give(
     requires boxes { HasBoxes setup.now outs.old }
     requires messages { 0 < outs.old.spare }
     ensures row { (s : Side) →
-        giving caps.new vpes.new park.new outs.new s
+        with_caps_vpes_parks_outs caps.new vpes.new park.new outs.new s
         ≡ child_sent setup.now kernel parent key object
-        (giving caps.old vpes.old park.old outs.old s) }
+        (with_caps_vpes_parks_outs caps.old vpes.old park.old outs.old s) }
     ensures ours { vpes.new.ours ≡ vpes.old.ours }
     ensures spare { caps.old.spare ≤ caps.new.spare + 1 }
     ensures boxes { HasBoxes setup.now outs.new }

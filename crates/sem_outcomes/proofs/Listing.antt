@@ -12,7 +12,7 @@ use Rattle.sem_msg.specs.declared.entry.Entry.{Entry}
 use Rattle.sem_msg.specs.Setup.{Setup}
 use Rattle.sem_machine.specs.Living.{IsComplete}
 use Rattle.sem_histories.specs.Outcomes.{RunOutcome, outcome}
-use Rattle.sem_histories.specs.Listing.{Witness, witness_of, outcomes_of, IsEnding, HasCount, ListsOutcomes}
+use Rattle.sem_histories.specs.Listing.{Witness, witness_of, outcomes_of, IsEnding, HasSoMany, ListsOutcomes}
 use Rattle.sem_histories.specs.declared.witnesses.Listed.{Listed}
 use Rattle.sem_histories.proofs.GrowingLists.{lists-none, lists-skip, lists-put}
 use Rattle.sem_outcomes.specs.Endings.{witnesses_of, AreCounted, ListsEndings}
@@ -31,7 +31,7 @@ many-outcomes found = length-map (witnesses_of found) (λ (w : Witness). w.outco
 
 module _ (T : Setup) where
   pub endings-none : ListsEndings T [] []
-  endings-none = record { lists = lists-none T; counts = All-nil (λ (l : Listed). HasCount (IsEnding T l.witness.outcome) [] l.histories) }
+  endings-none = record { lists = lists-none T; counts = All-nil (λ (l : Listed). HasSoMany (IsEnding T l.witness.outcome) [] l.histories) }
 
   module _ (V : List (List Entry)) (J : List Entry) (found : List Listed) (is : ListsEndings T V found) where
     -- a history that is not complete adds nothing
@@ -54,8 +54,8 @@ module _ (T : Setup) where
         k-is : (d : Listed) → get_or found k d ≡ l
         k-is d = get_or_from_slice_get found k l d here
 
-        pub l-counts : HasCount (IsEnding T l.witness.outcome) V l.histories
-        l-counts = subst (λ (x : Listed). HasCount (IsEnding T x.witness.outcome) V x.histories) (k-is l) (is.counts k l k-within)
+        pub l-counts : HasSoMany (IsEnding T l.witness.outcome) V l.histories
+        l-counts = subst (λ (x : Listed). HasSoMany (IsEnding T x.witness.outcome) V x.histories) (k-is l) (is.counts k l k-within)
 
         same-witnesses : witnesses_of (set found k counted) ≡ witnesses_of found
         same-witnesses = map-set_same (λ (x : Listed). x.witness) found k counted l (ap (λ (x : Listed). x.witness) (sym (k-is l)))
@@ -88,11 +88,11 @@ module _ (T : Setup) where
             let within : j < length found = omega (arith, there, long) in
             elim (cases_eq j k) [
               | inl equal ↦
-                  subst (λ (x : Listed). HasCount (IsEnding T x.witness.outcome) (V ++ J ∷ []) x.histories)
+                  subst (λ (x : Listed). HasSoMany (IsEnding T x.witness.outcome) (V ++ J ∷ []) x.histories)
                   (sym (ap (λ n. get_or (set found k counted) n d) equal ∙ get_or-set_same found k counted d k-within))
                   (count-more (IsEnding T l.witness.outcome) V l.histories J (complete, sym same) l-counts)
               | inr apart ↦
-                  subst (λ (x : Listed). HasCount (IsEnding T x.witness.outcome) (V ++ J ∷ []) x.histories)
+                  subst (λ (x : Listed). HasSoMany (IsEnding T x.witness.outcome) (V ++ J ∷ []) x.histories)
                   (sym (get_or-set_other found k j counted d apart))
                   (count-same (IsEnding T (get_or found j d).witness.outcome) V (get_or found j d).histories J
                   (λ ends. alone j d within apart (sym ends.1)) (is.counts j d within))
@@ -119,14 +119,14 @@ module _ (T : Setup) where
         endings-first = record {
           lists = subst (ListsOutcomes T (V ++ J ∷ [])) (sym (map-append (λ (x : Listed). x.witness) found (first ∷ [])))
               (lists-put T V J (witnesses_of found) is.lists complete unlisted);
-          counts = All-append (λ (x : Listed). HasCount (IsEnding T x.witness.outcome) (V ++ J ∷ []) x.histories) found (first ∷ [])
+          counts = All-append (λ (x : Listed). HasSoMany (IsEnding T x.witness.outcome) (V ++ J ∷ []) x.histories) found (first ∷ [])
               (λ j d there. count-same (IsEnding T (get_or found j d).witness.outcome) V (get_or found j d).histories J
               (λ ends. none j d there (sym ends.1)) (is.counts j d there))
-              (All-cons (λ (x : Listed). HasCount (IsEnding T x.witness.outcome) (V ++ J ∷ []) x.histories) first []
+              (All-cons (λ (x : Listed). HasSoMany (IsEnding T x.witness.outcome) (V ++ J ∷ []) x.histories) first []
               (count-more (IsEnding T (outcome T J)) V 0 J (complete, refl)
               (count-none (IsEnding T (outcome T J)) V
               (λ K among ends. unlisted (subst (Contains (outcomes_of (witnesses_of found))) ends.1 (is.lists.whole K among ends.0)))))
-              (All-nil (λ (x : Listed). HasCount (IsEnding T x.witness.outcome) (V ++ J ∷ []) x.histories)));
+              (All-nil (λ (x : Listed). HasSoMany (IsEnding T x.witness.outcome) (V ++ J ∷ []) x.histories)));
         }
 
 -- a count that fewer histories than a word holds can go up

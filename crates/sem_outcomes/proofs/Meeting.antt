@@ -11,7 +11,7 @@ use Rattle.sem_msg.specs.Fabric.{FabricValue}
 use Rattle.sem_machine.specs.Machine.{is_enabled, entry_of}
 use Rattle.sem_machine.specs.Schedules.{IsSchedule, world_after}
 use Rattle.sem_kernel.specs.Worlds.{taken, NamesPeer}
-use Rattle.sem_numbering.specs.Nodes.{Node, IsFound, IsMissing, IsMadeBy}
+use Rattle.sem_numbering.specs.Nodes.{Node, IsFoundPart, HasNoNode, IsMadeBy}
 use Rattle.sem_histories.specs.Outcomes.{HasSameParts, and_then}
 use Rattle.sem_histories.specs.Search.{HasMoreThan}
 use Rattle.sem_outcomes.specs.declared.steps.Step.{Step}
@@ -103,16 +103,16 @@ module _ (T : Setup) (h v : HistoriesValue) (is : v ≡ h) (met : AreMet T h) (a
           let low = p-node T J runs ev enabled own h.trees met.trees ns of_J input by in
           subst (λ (ms : List Node). from ≤ length ms) (sym read') (subst (λ n. n ≤ length (get_or h.trees ev.kernel [])) (sym is_from) low)
 
-      pub part-found : (n : ℕ) → IsFound nodes from ev input n → AreNumbersIn T h.trees (set (get_or h.numbers at []) ev.kernel n)
+      pub part-found : (n : ℕ) → IsFoundPart nodes from ev input n → AreNumbersIn T h.trees (set (get_or h.numbers at []) ev.kernel n)
           (and_then T (journal_at T h.steps at) ev)
       part-found n found =
           numbers-found T J runs ev enabled own h.trees met.trees ns of_J input by n
-          (subst (λ (ms : List Node). IsFound ms (get_or ns ev.kernel 0) ev input n) read'
-          (subst (λ m. IsFound nodes m ev input n) is_from found))
+          (subst (λ (ms : List Node). IsFoundPart ms (get_or ns ev.kernel 0) ev input n) read'
+          (subst (λ m. IsFoundPart nodes m ev input n) is_from found))
 
-      module _ (missing : IsMissing nodes from ev input) where
-        missing' : IsMissing (get_or h.trees ev.kernel []) (get_or (get_or h.numbers at []) ev.kernel 0) ev input
-        missing' = subst (λ (ms : List Node). IsMissing ms (get_or ns ev.kernel 0) ev input) read' (subst (λ m. IsMissing nodes m ev input) is_from missing)
+      module _ (missing : HasNoNode nodes from ev input) where
+        missing' : HasNoNode (get_or h.trees ev.kernel []) (get_or (get_or h.numbers at []) ev.kernel 0) ev input
+        missing' = subst (λ (ms : List Node). HasNoNode ms (get_or ns ev.kernel 0) ev input) read' (subst (λ m. HasNoNode nodes m ev input) is_from missing)
 
         abbrev more : List (List Node)
         more = set h.trees ev.kernel (get_or h.trees ev.kernel [] ++ (get_or ns ev.kernel 0, made) ∷ [])

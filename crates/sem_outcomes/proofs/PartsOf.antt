@@ -20,7 +20,7 @@ use Rattle.sem_machine.proofs.Pushing.{schedule-push, entry_of-event}
 use Rattle.sem_parts.specs.Parts.{IsNext}
 use Rattle.sem_parts.proofs.LocalRuns.{runs-before}
 use Rattle.sem_parts.proofs.Together.{schedule-parts}
-use Rattle.sem_numbering.specs.Nodes.{Node, IsMadeBy, IsFound, IsMissing}
+use Rattle.sem_numbering.specs.Nodes.{Node, IsMadeBy, IsFoundPart, HasNoNode}
 use Rattle.sem_histories.specs.Outcomes.{and_then}
 use Rattle.sem_histories.specs.Trees.{IsTree, part_below, AreTrees}
 use Rattle.sem_histories.proofs.TreeParts.{tree-put}
@@ -156,7 +156,7 @@ module _ (T : Setup) (J : List Entry) (runs : IsSchedule T J) (ev : Event) (enab
         omega (arith, long, inside)
 
     -- The part that goes on is found.
-    module _ (n : ℕ) (found : IsFound nodes p ev message n) where
+    module _ (n : ℕ) (found : IsFoundPart nodes p ev message n) where
       found-within : found.place < length nodes
       found-within = slice_get_within nodes found.place (p, found.node.entry) found.node.node
 
@@ -184,7 +184,7 @@ module _ (T : Setup) (J : List Entry) (runs : IsSchedule T J) (ev : Event) (enab
           (n-below ∙ ap (λ y. part J ev.kernel ++ y ∷ []) (sym (made-same message by found.node.entry found.node.made run))) of_J
 
     -- It is not, and is put at the end.
-    module _ (missing : IsMissing nodes p ev message) where
+    module _ (missing : HasNoNode nodes p ev message) where
       abbrev more : List (List Node)
       more = set trees ev.kernel (nodes ++ (p, made) ∷ [])
 

@@ -14,7 +14,7 @@ use Rattle.sem_key.proofs.Members.{Contains-head, Contains-nil, Contains-cons_ca
 use Rattle.sem_msg.specs.Setup.{Setup}
 use Rattle.sem_machine.specs.Seeded.{seeded}
 use Rattle.sem_histories.specs.Outcomes.{RunOutcome}
-use Rattle.sem_histories.specs.Listing.{Witness, witness_of, HasCount}
+use Rattle.sem_histories.specs.Listing.{Witness, witness_of, HasSoMany}
 use Rattle.sem_histories.specs.declared.witnesses.Sampled.{Sampled}
 use Rattle.sem_outcomes.specs.Samples.{seeded_outcome, sampled_outcomes, seeds_of, IsSampled, IsSample, NextSampled, again, first}
 use Rattle.sem_outcomes.proofs.Places.{mapped-at}
@@ -86,7 +86,7 @@ module _ (T : Setup) (from : ℕ) where
       outcome = was.outcome;
       among = subst (λ ks. Contains ks s.seed) (sym more-seeds) (Contains-append_left (seeds_of from n) (last ∷ []) s.seed was.among);
       least = was.least;
-      count = subst (λ ks. HasCount (IsOutcomeOf s.witness.outcome) ks s.count) (sym more-seeds)
+      count = subst (λ ks. HasSoMany (IsOutcomeOf s.witness.outcome) ks s.count) (sym more-seeds)
           (count-same (IsOutcomeOf s.witness.outcome) (seeds_of from n) s.count last other was.count);
     }
 
@@ -124,7 +124,7 @@ module _ (T : Setup) (from : ℕ) where
         outcome = was.outcome;
         among = subst (λ ks. Contains ks s.seed) (sym more-seeds) (Contains-append_left (seeds_of from n) (last ∷ []) s.seed was.among);
         least = was.least;
-        count = subst (λ ks. HasCount (IsOutcomeOf s.witness.outcome) ks (s.count + 1)) (sym more-seeds)
+        count = subst (λ ks. HasSoMany (IsOutcomeOf s.witness.outcome) ks (s.count + 1)) (sym more-seeds)
             (count-more (IsOutcomeOf s.witness.outcome) (seeds_of from n) s.count last (sym same) was.count);
       }
 
@@ -185,7 +185,7 @@ module _ (T : Setup) (from : ℕ) where
         outcome = refl;
         among = subst (λ ks. Contains ks last) (sym more-seeds) (Contains-append_right (seeds_of from n) (last ∷ []) last (Contains-head last []));
         least = λ seed low below same. unlisted (subst (Contains (sampled_outcomes found)) same (is.all seed (in-range from n seed low below)));
-        count = subst (λ ks. HasCount (IsOutcomeOf (seeded_outcome T last)) ks 1) (sym more-seeds)
+        count = subst (λ ks. HasSoMany (IsOutcomeOf (seeded_outcome T last)) ks 1) (sym more-seeds)
             (count-more (IsOutcomeOf (seeded_outcome T last)) (seeds_of from n) 0 last refl
             (count-none (IsOutcomeOf (seeded_outcome T last)) (seeds_of from n)
             (λ seed among same. unlisted (subst (Contains (sampled_outcomes found)) same (is.all seed among)))));

@@ -22,7 +22,7 @@ use Rattle.sem_histories.proofs.Closing.{itself}
 use Rattle.sem_histories.proofs.Numbers.{numbers-parts, parts-numbers}
 use Rattle.sem_histories.proofs.Searching.{searched-put, searched-next, represents-last, gone-on-more}
 use Rattle.sem_outcomes.specs.declared.steps.Step.{Step}
-use Rattle.sem_outcomes.specs.Met.{journals, journal_at, parts_of, AreEarlier, ArePartTrees, AreNumbersIn, HistoriesValue, AreMet, GoesOn, IsUnderWay, HasMet}
+use Rattle.sem_outcomes.specs.Met.{journals, journal_at, parts_of, AreEarlier, ArePartTrees, AreNumbersIn, HistoriesValue, AreMet, Continues, IsUnderWay, HasMet}
 use Rattle.sem_outcomes.specs.Endings.{ListsEndings}
 use Rattle.sem_outcomes.proofs.Growing.{journals-push, journals-length, journal-kept}
 use Rattle.sem_outcomes.proofs.PartsOf.{TreesGrow, trees-are, numbers-kept}
@@ -166,14 +166,14 @@ pub met-same : (T : Setup) (limit at : ℕ) (es : List Event) (h g new : Histori
     HasMet T limit at es h new
 met-same T limit at es h g new steps is = record {
   now = is.now;
-  grown = subst (λ (ss : List Step). GoesOn (journals T ss) (journals T new.steps)) steps is.grown;
+  grown = subst (λ (ss : List Step). Continues (journals T ss) (journals T new.steps)) steps is.grown;
   gone_on = subst (λ (ss : List Step). HasGoneOn (HasSameParts T) T (journals T new.steps) (journal_at T ss at) es) steps is.gone_on;
 }
 
-pub goes-on-same : (V : List (List Entry)) → GoesOn V V
+pub goes-on-same : (V : List (List Entry)) → Continues V V
 goes-on-same V = ([], sym (append-nil V))
 
-pub goes-on-both : (U V W : List (List Entry)) → GoesOn U V → GoesOn V W → GoesOn U W
+pub goes-on-both : (U V W : List (List Entry)) → Continues U V → Continues V W → Continues U W
 goes-on-both U V W one two = (one.0 ++ two.0, two.1 ∙ (ap (λ X. X ++ two.0) one.1 ∙ append_assoc U one.0 two.0))
 
 gone-none : (T : Setup) (V : List (List Entry)) (L : List Entry) → HasGoneOn (HasSameParts T) T V L []

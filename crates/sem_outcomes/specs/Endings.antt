@@ -1,7 +1,7 @@
 -- How histories end, counted.
 use Rattle.std.specs.Prelude.{◌≡◌, List, length, map, All}
 use Rattle.sem_machine.specs.Prelude.{Entry, Setup}
-use Rattle.sem_histories.specs.Listing.{Witness, IsEnding, HasCount, ListsOutcomes}
+use Rattle.sem_histories.specs.Listing.{Witness, IsEnding, HasSoMany, ListsOutcomes}
 use Rattle.sem_histories.specs.Closed.{CountsAs, ByParts, IsClosed}
 use Rattle.sem_histories.specs.Search.{AreApart}
 use Rattle.sem_histories.specs.declared.witnesses.Listed.{Listed}
@@ -12,7 +12,7 @@ witnesses_of found = map (λ l. l.witness) found
 
 -- each outcome is that of exactly that many of the histories, all complete
 abbrev pub AreCounted : Setup → List (List Entry) → List Listed → Type 0
-AreCounted T V found = All (λ l. HasCount (IsEnding T l.witness.outcome) V l.histories) found
+AreCounted T V found = All (λ l. HasSoMany (IsEnding T l.witness.outcome) V l.histories) found
 
 -- the outcomes of these histories are listed and counted
 pub record ListsEndings (T : Setup) (V : List (List Entry)) (found : List Listed) : Type 0 where

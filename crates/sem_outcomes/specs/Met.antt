@@ -61,8 +61,8 @@ pub record HasLinks (T : Setup) (f : FabricValue) (J : List Entry) : Type 0 wher
   pub links : f.links ≡ (world_after T J).links
 
 -- the list continues the other
-abbrev pub GoesOn : List (List Entry) → List (List Entry) → Type 0
-GoesOn V W = (rest : List (List Entry)) × (W ≡ V ++ rest)
+abbrev pub Continues : List (List Entry) → List (List Entry) → Type 0
+Continues V W = (rest : List (List Entry)) × (W ≡ V ++ rest)
 
 -- A search within its limit has gone on from exactly that many of the first histories.
 pub record IsUnderWay (T : Setup) (limit at : ℕ) (h : HistoriesValue) : Type 0 where
@@ -73,5 +73,5 @@ pub record IsUnderWay (T : Setup) (limit at : ℕ) (h : HistoriesValue) : Type 0
 -- it has also met what each of these events leads to from a history that it had before
 pub record HasMet (T : Setup) (limit at : ℕ) (events : List Event) (old new : HistoriesValue) : Type 0 where
   pub now : IsUnderWay T limit at new
-  pub grown : GoesOn (journals T old.steps) (journals T new.steps)
+  pub grown : Continues (journals T old.steps) (journals T new.steps)
   pub gone_on : HasGoneOn (CountsAs ByParts T) T (journals T new.steps) (journal_at T old.steps at) events

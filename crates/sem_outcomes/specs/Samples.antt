@@ -4,7 +4,7 @@ use Rattle.std.specs.Prelude.{Contains, All, AllPairs}
 use Rattle.std.specs.List.{range_with_len}
 use Rattle.sem_machine.specs.Prelude.{Setup, seeded}
 use Rattle.sem_histories.specs.Outcomes.{RunOutcome, outcome}
-use Rattle.sem_histories.specs.Listing.{Witness, HasCount}
+use Rattle.sem_histories.specs.Listing.{Witness, HasSoMany}
 use Rattle.sem_histories.specs.declared.witnesses.Sampled.{Sampled}
 
 -- the outcome of the run by a seed
@@ -25,7 +25,7 @@ pub record IsSampled (T : Setup) (from seeds : ℕ) (s : Sampled) : Type 0 where
   pub outcome : s.witness.outcome ≡ seeded_outcome T s.seed
   pub among : Contains (seeds_of from seeds) s.seed
   pub least : (seed : ℕ) → from ≤ seed → seed < s.seed → seeded_outcome T seed ≢ s.witness.outcome
-  pub count : HasCount (λ seed. seeded_outcome T seed ≡ s.witness.outcome) (seeds_of from seeds) s.count
+  pub count : HasSoMany (λ seed. seeded_outcome T seed ≡ s.witness.outcome) (seeds_of from seeds) s.count
 
 -- Each of that many seeds from `from` on ends with one of the outcomes. Each outcome is sampled so,
 -- and none stands twice.

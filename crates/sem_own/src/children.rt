@@ -9,7 +9,7 @@ ghost use Rattle.sem_machine.specs.Calls.{child_made, derive_row, gate_row};
 ghost use Rattle.sem_machine.specs.Calls.{narrowed as narrowed_lem};
 ghost use Rattle.sem_own.specs.Holding.{holding, IsNextFree, HasChildRoom};
 
-use crate::refusals::{derive_refusal, gate_refusal, own_cap};
+use crate::refusals::{derive_refusal, gate_refusal};
 use sem_caps::Caps;
 use sem_key::{Key, Object};
 use sem_msg::{Code, Outcome, Setup};
@@ -48,7 +48,7 @@ pub fn derive_call(
     if let Some(code) = derive_refusal(caps, vpes, vpe, src, dst, part) {
         return Outcome::answered(code);
     }
-    let Some(parent) = own_cap(caps, vpes, vpe, src) else {
+    let Some(parent) = vpes.held_key(vpe, src).and_then(|key| caps.get(key)) else {
         return Outcome::answered(Code::NoCap);
     };
     let key = parent.key;
@@ -81,7 +81,7 @@ pub fn gate_call(
     if let Some(code) = gate_refusal(caps, vpes, vpe, src, dst, credits) {
         return Outcome::answered(code);
     }
-    let Some(parent) = own_cap(caps, vpes, vpe, src) else {
+    let Some(parent) = vpes.held_key(vpe, src).and_then(|key| caps.get(key)) else {
         return Outcome::answered(Code::NoCap);
     };
     let key = parent.key;

@@ -10,7 +10,7 @@ ghost use Rattle.sem_machine.specs.Stores.{with_endpoints};
 ghost use Rattle.sem_own.specs.Holding.{holding};
 ghost use Rattle.sem_own.specs.Using.{use_row};
 
-use crate::refusals::{bind_refusal, own_cap};
+use crate::refusals::bind_refusal;
 use sem_caps::Caps;
 use sem_dtu::{Dtus, Op};
 use sem_msg::{Code, Outcome};
@@ -35,7 +35,7 @@ pub fn bind_call(vpe: u16, ep: u8, src: u8, caps: &Caps, vpes: &Vpes, dtus: &mut
     if let Some(code) = bind_refusal(caps, vpes, vpe, src) {
         return Outcome::answered(code);
     }
-    let Some(cap) = own_cap(caps, vpes, vpe, src) else {
+    let Some(cap) = vpes.held_key(vpe, src).and_then(|key| caps.get(key)) else {
         return Outcome::answered(Code::NoCap);
     };
     dtus.bind(vpe, ep, cap.key, cap.object);

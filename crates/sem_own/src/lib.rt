@@ -8,4 +8,3 @@ mod refusals;
 
 pub use children::{Part, derive_call, gate_call};
 pub use endpoints::{bind_call, credit_call, read_call, send_call, write_call};
-pub use refusals::own_cap;

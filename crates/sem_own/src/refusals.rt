@@ -1,8 +1,6 @@
-ghost use Rattle.std.specs.Prelude.{◌≡◌, option_copied};
-ghost use Rattle.std.specs.Option.{option_map};
-ghost use Rattle.sem_key.specs.Capability.{capability_of};
+ghost use Rattle.std.specs.Prelude.{◌≡◌};
 ghost use Rattle.sem_vpe.specs.VpeTable.{IsOurs};
-ghost use Rattle.sem_machine.specs.Sides.{no_side, own};
+ghost use Rattle.sem_machine.specs.Sides.{no_side};
 ghost use Rattle.sem_machine.specs.Steps.{first_code};
 ghost use Rattle.sem_machine.specs.Calls.{bind_tests, derive_tests};
 ghost use Rattle.sem_machine.specs.Calls.{exceeds_slots as exceeds_slots_lem, gate_tests};
@@ -11,22 +9,9 @@ ghost use Rattle.sem_own.specs.Holding.{holding};
 
 use crate::children::Part;
 use sem_caps::Caps;
-use sem_key::{Cap, Object};
-use sem_msg::{Code, Slot};
+use sem_key::Object;
+use sem_msg::Code;
 use sem_vpe::Vpes;
-
-/// The capability at a selector of the VPE; none if the selector holds none. The VPE must be of
-/// this kernel. Takes no memory.
-pub fn own_cap<'a>(caps: &'a Caps, vpes: &Vpes, vpe: u16, sel: u8) -> Option<&'a Cap>
-    requires { IsOurs vpes.now vpe }
-    ensures { option_map capability_of (option_copied result)
-        ≡ own (holding caps.now vpes.now no_side) vpe sel }
-{
-    match vpes.selector(vpe, sel) {
-        Slot::Held(key) => caps.get(key),
-        Slot::Free | Slot::Promised => None,
-    }
-}
 
 // Whether the part goes past the end of the memory, or has more rights.
 fn is_wider(part: &Part, object: &Object) -> bool
@@ -55,7 +40,7 @@ pub fn derive_refusal(
         (derive_tests (holding caps.now vpes.now no_side) vpe src dst part.now.off part.now.len
         part.now.rights) }
 {
-    let Some(cap) = own_cap(caps, vpes, vpe, src) else {
+    let Some(cap) = vpes.held_key(vpe, src).and_then(|key| caps.get(key)) else {
         return Some(Code::NoCap);
     };
     if cap.mark.is_some() {
@@ -81,7 +66,7 @@ pub fn gate_refusal(
     ensures { result ≡ first_code
         (gate_tests (holding caps.now vpes.now no_side) vpe src dst credits) }
 {
-    let Some(cap) = own_cap(caps, vpes, vpe, src) else {
+    let Some(cap) = vpes.held_key(vpe, src).and_then(|key| caps.get(key)) else {
         return Some(Code::NoCap);
     };
     if cap.mark.is_some() {
@@ -99,7 +84,7 @@ pub fn bind_refusal(caps: &Caps, vpes: &Vpes, vpe: u16, src: u8) -> Option<Code>
     requires { IsOurs vpes.now vpe }
     ensures { result ≡ first_code (bind_tests (holding caps.now vpes.now no_side) vpe src) }
 {
-    let Some(cap) = own_cap(caps, vpes, vpe, src) else {
+    let Some(cap) = vpes.held_key(vpe, src).and_then(|key| caps.get(key)) else {
         return Some(Code::NoCap);
     };
     if cap.mark.is_some() {

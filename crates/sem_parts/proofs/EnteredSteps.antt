@@ -13,7 +13,7 @@ use Rattle.sem_machine.specs.Sides.{Side, outbox}
 use Rattle.sem_machine.specs.Machine.{is_other_kernel, is_locally_enabled, local_step, local_entry}
 use Rattle.sem_msg.specs.Fabric.{FabricValue, FabricAgrees, IsOwnAct, is_due, link_in, relinked, entered}
 use Rattle.sem_parts.specs.Parts.{IsHanded, RunsTo}
-use Rattle.sem_parts.specs.Standing.{HasEntered}
+use Rattle.sem_parts.specs.SidesAfter.{HasEntered}
 use Rattle.sem_msg.proofs.Moves.{part-own, part-other}
 use Rattle.sem_msg.proofs.Entering.{agrees-own, agrees-fetch, agrees-flush, agrees-kill}
 use Rattle.sem_parts.proofs.LocalRuns.{runs-next, next-made, next-side}

@@ -22,7 +22,7 @@ use Rattle.sem_safety.proofs.GoingOn.{moved-sides, entry-enabled}
 use Rattle.sem_msg.specs.Fabric.{FabricValue, IsSquare, link_in, link_put}
 use Rattle.sem_msg.proofs.Squares.{square-put, square-start}
 use Rattle.sem_parts.specs.Parts.{RunsTo}
-use Rattle.sem_parts.specs.Standing.{HasEntered, StandAt, world_with}
+use Rattle.sem_parts.specs.SidesAfter.{HasEntered, AreSidesAfter, world_with}
 use Rattle.sem_parts.proofs.Growing.{snoc-induct}
 use Rattle.sem_parts.proofs.Together.{schedule-stands, parts-schedule, world-snoc, stands-start}
 
@@ -83,7 +83,7 @@ module _ (T : Setup) where
 
   -- Kernels and a fabric that stand at a schedule.
 
-  module _ (sides : List Side) (f : FabricValue) (is : StandAt T sides f) where
+  module _ (sides : List Side) (f : FabricValue) (is : AreSidesAfter T sides f) where
     pub stand-schedule : IsSchedule T f.journal
     stand-schedule = parts-schedule T f.journal (record { owned = is.fabric.owned; runs = λ i here. (is.runs i here).run; agrees = is.fabric.agrees })
 
@@ -103,7 +103,7 @@ module _ (T : Setup) where
 
     -- after a step of one kernel they stand at a schedule again
     pub stand-next : (i : ℕ) (e : Entry) (t : Side) (g : FabricValue) → i < T.kernels → IsSquare T.kernels g.links → HasEntered T i e t f g →
-        StandAt T (set sides i t) g
+        AreSidesAfter T (set sides i t) g
     stand-next i e t g here square next =
         let count = is.count in
         let within : i < length sides = omega (arith, here, count) in
@@ -120,7 +120,7 @@ module _ (T : Setup) where
         }
 
   -- so a step of the code is an event of the world that they are
-  pub stand-after : (sides : List Side) (f : FabricValue) (i : ℕ) (e : Entry) (t : Side) (g : FabricValue) → StandAt T sides f → i < T.kernels
+  pub stand-after : (sides : List Side) (f : FabricValue) (i : ℕ) (e : Entry) (t : Side) (g : FabricValue) → AreSidesAfter T sides f → i < T.kernels
       → IsSquare T.kernels g.links → HasEntered T i e t f g → world_with (set sides i t) g ≡ after T (world_with sides f) e.event
   stand-after sides f i e t g is here square next =
       let now = stand-next sides f is i e t g here square next in
@@ -130,7 +130,7 @@ module _ (T : Setup) where
   -- The start and the world after a schedule.
 
   pub stand-start : (places : List Bool) →
-      StandAt T (map (start_side T) (range_with_len 0 T.kernels)) (record {
+      AreSidesAfter T (map (start_side T) (range_with_len 0 T.kernels)) (record {
         kernels = T.kernels;
         window = T.window;
         kills = T.kills;
@@ -147,7 +147,7 @@ module _ (T : Setup) where
   }
 
   pub schedule-stand : (J : List Entry) (places : List Bool) → IsSchedule T J →
-      StandAt T (world_after T J).sides (record {
+      AreSidesAfter T (world_after T J).sides (record {
         kernels = T.kernels;
         window = T.window;
         kills = T.kills;

@@ -12,7 +12,7 @@ ghost use Rattle.sem_msg.specs.Fabric.{relinked, entered};
 ghost use Rattle.sem_machine.specs.Sides.{Side, outbox};
 ghost use Rattle.sem_machine.specs.Machine.{is_locally_enabled, local_step, local_entry};
 ghost use Rattle.sem_parts.specs.Parts.{IsHanded, RunsTo};
-ghost use Rattle.sem_parts.specs.Standing.{HasEntered};
+ghost use Rattle.sem_parts.specs.SidesAfter.{HasEntered};
 
 /// If a kernel is at the end of its local run, it is after its step at the end of the run with one
 /// more entry, whatever the links are.

@@ -21,7 +21,7 @@ use Rattle.sem_machine.specs.Schedules.{IsSchedule, world_after}
 use Rattle.sem_safety.proofs.JobIds.{HasIds, ids, start-ids}
 use Rattle.sem_safety.proofs.SideLayers.{run-kept}
 use Rattle.sem_sound.proofs.Jobbing.{same-id}
-use Rattle.sem_revoke.specs.Scales.{asking_message, asking, stray_message, straying, names, one_if}
+use Rattle.sem_revoke.specs.Scales.{requesting_message, requesting, stray_message, straying, names, one_if}
 use Rattle.sem_revoke.proofs.JobTokens.{HasWeight, world-some}
 use Rattle.sem_revoke.proofs.Linking.{holds, way-weighs}
 use Rattle.sem_revoke.proofs.Marking.{marks-spread, roots-marked}
@@ -39,7 +39,7 @@ job-found s is x among = from (job s x.id) refl
     from None none = absurd (true≢false (sym (eq-eqb x.id x.id refl) ∙ not_found (λ (y : JobRow). y.id == x.id) s.jobs x none among))
 
 -- a request of the kernel that owns its key is a stray
-stray-at_home : (owner : KeyName → ℕ) (k : KeyName) (i n from to : ℕ) (m : Message) → owner k ≡ i → 1 ≤ asking_message k i n from to m →
+stray-at_home : (owner : KeyName → ℕ) (k : KeyName) (i n from to : ℕ) (m : Message) → owner k ≡ i → 1 ≤ requesting_message k i n from to m →
     1 ≤ stray_message owner from to m
 stray-at_home owner k i n from to (RevokeReq key j) home some =
     let outer = and_parts (key_eq key k) ((from == i) && (j == n)) (one-more (key_eq key k && ((from == i) && (j == n))) some) in
@@ -85,7 +85,7 @@ module _ (T : Setup) (valid : IsSetup T) (J : List Entry) (runs : IsSchedule T J
       elim (marks-spread T valid J runs p k c n (ap (λ a. cap (side W a) p) home_p
       ∙ held_p) marked child (inl (i, subst (λ (o : Option Capability). IsSome o) (sym held) refl))) [
         | inl (same, (e, held', some)) ↦ unmarked k d at_home none n e held' some
-        | inr asked ↦ by (world-some (asking k (owner_of T p) n) W asked)
+        | inr asked ↦ by (world-some (requesting k (owner_of T p) n) W asked)
       ]
     where
       home_p : owner_of T p ≡ i
@@ -97,7 +97,7 @@ module _ (T : Setup) (valid : IsSetup T) (J : List Entry) (runs : IsSchedule T J
       at_home : HoldsCap W (owner_of T k) k d
       at_home = ap (λ a. cap (side W a) k) home ∙ held
 
-      by : HasWeight (asking k (owner_of T p) n) W → ⊥
+      by : HasWeight (requesting k (owner_of T p) n) W → ⊥
       by (inl (a, b, m, among, some)) =
           let stray = stray-at_home (owner_of T) k (owner_of T p) n a b m (home ∙ sym home_p) some in
           let weighs = way-weighs T valid J runs (straying (owner_of T)) a b m among in

@@ -58,7 +58,7 @@ use Rattle.sem_query.proofs.Bearing.{IsAlike, alike-same}
 use Rattle.sem_query.proofs.BearingRows.{revokes}
 use Rattle.sem_query.proofs.Passing.{only-one, with-e, at}
 use Rattle.sem_query.proofs.Changing.{made-so, revoking-is, shown-detail, side-here, held-same}
-use Rattle.sem_query.proofs.Staying.{Stay, IsFree, free-of, ids-of, with-jobs, changed-job, begin-stay}
+use Rattle.sem_query.proofs.Staying.{Stay, IsUnmarkedKey, free-of, ids-of, with-jobs, changed-job, begin-stay}
 
 -- what a VPE holds at a selector is held
 own-among : (t : Side) (v src : ℕ) (c : Capability) → own t v src ≡ Some c → Contains t.caps c
@@ -74,7 +74,7 @@ module _ (xs : List Capability) (T : Setup) (i : ℕ) where
   abbrev P : Side → Type 0
   P t = Stay xs t
 
-  begun-stay : (v : ℕ) (k : KeyName) (m : Option ℕ) (t : Side) → P t → (m ≡ None → IsFree xs k) → P (revoke_begun T i v k m t)
+  begun-stay : (v : ℕ) (k : KeyName) (m : Option ℕ) (t : Side) → P t → (m ≡ None → IsUnmarkedKey xs k) → P (revoke_begun T i v k m t)
   begun-stay v k None t S free = begin-stay xs T i k None (v ∷ []) false (parked_as v (RevokeWait t.next_job) t) S tt (free refl)
   begun-stay v k (Some j) t S free = changed-job xs (parked_as v (RevokeWait j) t) S j (λ x. record x { waiters = with_number x.waiters v }) (λ x. (refl, refl))
 
@@ -89,14 +89,14 @@ module _ (xs : List Capability) (T : Setup) (i : ℕ) where
   freed-stay (Some (RevokeWait j)) v t S = S
   freed-stay (Some (Ready code)) v t S = S
 
-  asked-stay : (from j : ℕ) (k : KeyName) (m : Option ℕ) (t : Side) → P t → (m ≡ None → IsFree xs k) → P (request_begun T i from j k m t)
+  asked-stay : (from j : ℕ) (k : KeyName) (m : Option ℕ) (t : Side) → P t → (m ≡ None → IsUnmarkedKey xs k) → P (request_begun T i from j k m t)
   asked-stay from j k None t S free = begin-stay xs T i k (Some (Remote from j)) [] false t S tt (free refl)
   asked-stay from j k (Some m) t S free = changed-job xs t S m (λ x. record x { up = Some (Remote from j); keep = false }) (λ x. (refl, refl))
 
   requested-stay : (from j : ℕ) (k : KeyName) (t : Side) → P t → (o : Option Capability) → cap t k ≡ o → P (revoke_requested T i from j k o t)
   requested-stay from j k t S (Some c) held =
       let there = found (λ (x : Capability). key_eq x.key k) t.caps c held in
-      asked-stay from j k c.mark t S (λ none. subst (IsFree xs) (key_eq-true c.key k there.1) (free-of xs t S c there.0 none))
+      asked-stay from j k c.mark t S (λ none. subst (IsUnmarkedKey xs) (key_eq-true c.key k there.1) (free-of xs t S c there.0 none))
   requested-stay from j k t S None held = cond_both (is_ready_with k (parked t k.vpe)) (parked_as k.vpe ObtainCancelled (ready_freed (parked t k.vpe) k.vpe t))
       t P (λ _. freed-stay (parked t k.vpe) k.vpe t S) (λ _. S)
 
@@ -141,7 +141,7 @@ module _ (xs : List Capability) (T : Setup) (i : ℕ) where
       by (Some j) some = S
       by None none =
           let there = found (λ (x : Capability). key_eq x.key k) t.caps c held in
-          begin-stay xs T i k None [] false t S tt (subst (IsFree xs) (key_eq-true c.key k there.1) (free-of xs t S c there.0 none))
+          begin-stay xs T i k None [] false t S tt (subst (IsUnmarkedKey xs) (key_eq-true c.key k there.1) (free-of xs t S c there.0 none))
 
   ended-stay : (v : ℕ) (t : Side) → P t → P (ended T i v t)
   unfolding ended

@@ -79,8 +79,8 @@ other-apart j (Some c) m is same = from c.mark is
 -- xs are the capabilities before the step
 module _ (xs : List Capability) where
   -- the key of none that is marked
-  abbrev pub IsFree : KeyName → Type 0
-  IsFree k = (c : Capability) → Contains xs c → c.key ≡ k → (m : ℕ) → c.mark ≡ Some m → ⊥
+  abbrev pub IsUnmarkedKey : KeyName → Type 0
+  IsUnmarkedKey k = (c : Capability) → Contains xs c → c.key ≡ k → (m : ℕ) → c.mark ≡ Some m → ⊥
 
   -- those that are marked are marked by a job before this one
   abbrev AreOlder : ℕ → Type 0
@@ -98,7 +98,7 @@ module _ (xs : List Capability) where
   Stay t = StayIn t.caps t.jobs t.next_job
 
   -- an unmarked capability has the key of none that was marked
-  pub free-of : (t : Side) → Stay t → (c : Capability) → Contains t.caps c → c.mark ≡ None → IsFree c.key
+  pub free-of : (t : Side) → Stay t → (c : Capability) → Contains t.caps c → c.mark ≡ None → IsUnmarkedKey c.key
   free-of t S c among none = λ e was same m some. (let clash : None ≡ Some m = sym none ∙ S.alone e was m some c among (sym same) in absurd cc)
 
   -- Changes of jobs.
@@ -117,7 +117,7 @@ module _ (xs : List Capability) where
 
   -- one that leaves keys and selectors, and marks none that was marked
   changed : (t : Side) → Stay t → (test : Capability → Bool) (f : Capability → Capability) → ((c : Capability) → IsKin c (f c)) →
-      ((c : Capability) → test c ≡ true → ((f c).mark ≡ c.mark) ⊎ IsFree c.key) → Stay (record t { caps = change test f t.caps })
+      ((c : Capability) → test c ≡ true → ((f c).mark ≡ c.mark) ⊎ IsUnmarkedKey c.key) → Stay (record t { caps = change test f t.caps })
   changed t S test f kin marks = record {
     rise = S.rise;
     drawn = S.drawn;
@@ -150,7 +150,7 @@ module _ (xs : List Capability) where
     object = refl;
   }) (λ c pass. inl refl)
 
-  marked-stay : (t : Side) → Stay t → (ks : List KeyName) (j : ℕ) → ((k : KeyName) → has_key ks k ≡ true → IsFree k) → Stay (mark_all ks j t)
+  marked-stay : (t : Side) → Stay t → (ks : List KeyName) (j : ℕ) → ((k : KeyName) → has_key ks k ≡ true → IsUnmarkedKey k) → Stay (mark_all ks j t)
   marked-stay t S ks j free = changed t S (λ c. list_any (key_eq c.key) ks) (with_mark j) (λ c. record { key = refl; selector = refl; object = refl })
       (λ c pass. inr (free c.key pass))
 
@@ -170,13 +170,13 @@ module _ (xs : List Capability) where
 
   -- A job that begins is closed.
 
-  spared-stay : (t : Side) → Stay t → (x : JobRow) → IsFree x.root → Stay (root_spared x t)
+  spared-stay : (t : Side) → Stay t → (x : JobRow) → IsUnmarkedKey x.root → Stay (root_spared x t)
   spared-stay t S x free = cond_both x.keep (restored t.caps x.root) t.caps (λ cs. Stay (record t { caps = cs }))
       (λ _. changed t S (λ c. key_eq c.key x.root) (λ c. record c { children = []; mark = None }) (λ c. record { key = refl; selector = refl; object = refl })
-      (λ c pass. inr (subst IsFree (sym (key_eq-true c.key x.root pass)) free)))
+      (λ c pass. inr (subst IsUnmarkedKey (sym (key_eq-true c.key x.root pass)) free)))
       (λ _. S)
 
-  swept-stay : (t : Side) → Stay t → (x : JobRow) → IsFree x.root → AreOlder x.id → Stay (swept x t)
+  swept-stay : (t : Side) → Stay t → (x : JobRow) → IsUnmarkedKey x.root → AreOlder x.id → Stay (swept x t)
   swept-stay t S x free older = removed-stay (selectors_freed x.id (root_spared x t)) (spared-stay t S x free) x.id older
 
   -- the job is given by its parts
@@ -195,7 +195,7 @@ module _ (xs : List Capability) where
   told-stay (Some (Local j)) far t S = absurd far
   told-stay (Some (Remote kernel j)) far t S = S
 
-  closed-stay : (T : Setup) (i : ℕ) (x : JobRow) (t : Side) → Stay t → IsFar x.up → IsFree x.root → AreOlder x.id → Stay (closed T i x t)
+  closed-stay : (T : Setup) (i : ℕ) (x : JobRow) (t : Side) → Stay t → IsFar x.up → IsUnmarkedKey x.root → AreOlder x.id → Stay (closed T i x t)
   unfolding closed_here
   closed-stay T i x t S far free older =
       let gone : Side = job_removed x.id t in
@@ -246,7 +246,7 @@ module _ (xs : List Capability) where
         (λ _. raised-opens (send (owner_of T k) (RevokeReq k j) t) (record { stay = O.stay; of = O.of }))
 
     -- and it is finished, where it has no token out
-    settled-stay : (t : Side) → Opens t → IsFar up → IsFree root → AreOlder j → Stay (settled T i j t)
+    settled-stay : (t : Side) → Opens t → IsFar up → IsUnmarkedKey root → AreOlder j → Stay (settled T i j t)
     unfolding finish
     settled-stay t O far free older = from (job t j) refl
       where
@@ -260,7 +260,7 @@ module _ (xs : List Capability) where
             let id : x.id ≡ j = eqb-true x.id j there.1 in
             let of = O.of x there.0 id in
             let far' : IsFar x.up = subst IsFar (sym of.1) far in
-            let gone : Stay (closed T i x t) = closed-stay T i x t O.stay far' (subst IsFree (sym of.0) free) (subst AreOlder (sym id) older) in
+            let gone : Stay (closed T i x t) = closed-stay T i x t O.stay far' (subst IsUnmarkedKey (sym of.0) free) (subst AreOlder (sym id) older) in
             subst (λ o. Stay (finish T i n o (closed T i x t))) (sym (far-next x.up far' (closed T i x t).jobs)) (none n (closed T i x t) gone)
 
         from : (o : Option JobRow) → job t j ≡ o → Stay (finish T i (length t.jobs) (if_done o) t)
@@ -268,7 +268,7 @@ module _ (xs : List Capability) where
         from (Some x) is = cond_both (x.count == 0) (Some x) None (λ o. Stay (finish T i (length t.jobs) o t)) (λ _. some (length t.jobs) x is)
             (λ _. none (length t.jobs) t O.stay)
 
-  pub begin-stay : (T : Setup) (i : ℕ) (root : KeyName) (up : Option Up) (waiters : List ℕ) (keep : Bool) (t : Side) → Stay t → IsFar up → IsFree root →
+  pub begin-stay : (T : Setup) (i : ℕ) (root : KeyName) (up : Option Up) (waiters : List ℕ) (keep : Bool) (t : Side) → Stay t → IsFar up → IsUnmarkedKey root →
       Stay (begin T i root up waiters keep t)
   unfolding opened
   begin-stay T i root up waiters keep t S far free = settled-stay T i t.next_job root up (opened T i root up waiters keep t) opens far free S.older
@@ -302,8 +302,8 @@ module _ (xs : List Capability) where
         ]
       ]
 
-      marks : (k : KeyName) → has_key ks k ≡ true → IsFree k
-      marks k has = let c = in-region t.caps root k has in subst IsFree c.2 (free-of t S c.0 c.1 c.3)
+      marks : (k : KeyName) → has_key ks k ≡ true → IsUnmarkedKey k
+      marks k has = let c = in-region t.caps root k has in subst IsUnmarkedKey c.2 (free-of t S c.0 c.1 c.3)
 
       opens : Opens T i t.next_job root up (opened T i root up waiters keep t)
       opens = in_turn-keeps (Opens T i t.next_job root up) (request_or_adopt T i t.next_job) (λ k u here. request-opens T i t.next_job root up k u here)

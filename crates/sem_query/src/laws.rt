@@ -15,7 +15,7 @@ ghost use Rattle.sem_msg.specs.declared.message.Message.TheVariants.{RevokeDone}
 ghost use Rattle.sem_msg.specs.Setup.{Setup, IsSetup};
 ghost use Rattle.sem_msg.specs.Lookups.{owner_of};
 ghost use Rattle.sem_machine.specs.Machine.{World, side, start};
-ghost use Rattle.sem_machine.specs.Schedules.{IsSchedule, world_after};
+ghost use Rattle.sem_machine.specs.Schedules.{Always, IsSchedule, world_after};
 ghost use Rattle.sem_machine.specs.Journals.{made, root_keys};
 ghost use Rattle.sem_machine.specs.Living.{HoldsCap};
 ghost use Rattle.sem_query.specs.declared.holder.Holder.{Holder};
@@ -30,11 +30,10 @@ ghost use Rattle.sem_query.specs.Lives.{lives_next};
 /// After every schedule of every setup a key is where `whereabouts` says, and nowhere else: held by
 /// its owner, on its way, or nowhere.
 pub fn keys_are_in_one_place()
-    ensures there { (T : Setup) → IsSetup T → (J : List Entry) → IsSchedule T J → (k : KeyName)
-        → IsThere (world_after T J) k (whereabouts_after T J k) }
-    ensures only { (T : Setup) → IsSetup T → (J : List Entry) → IsSchedule T J
-        → (k : KeyName) (h : Holder)
-        → IsThere (world_after T J) k h → h ≡ whereabouts_after T J k }
+    ensures there { Always (λ T J. (k : KeyName) →
+        IsThere (world_after T J) k (whereabouts_after T J k)) }
+    ensures only { Always (λ T J. (k : KeyName) (h : Holder) → IsThere (world_after T J) k h →
+        h ≡ whereabouts_after T J k) }
 {}
 
 /// What an entry of a schedule does to a key. A grant makes it live, and it was never live before.
@@ -60,18 +59,13 @@ pub fn held_keys_stay_as_they_are()
 /// The lives of a schedule are those of the made keys, and tell of each key where it was after each
 /// number of entries.
 pub fn lives_tell_where_keys_are()
-    ensures made { (T : Setup) → IsSetup T → (J : List Entry) → IsSchedule T J → (k : KeyName)
-        → Contains (made T J) k → IsSome (life T J k) }
-    ensures no_other { (T : Setup) → IsSetup T → (J : List Entry) → IsSchedule T J → (k : KeyName)
-        → IsSome (life T J k) → Contains (made T J) k }
-    ensures rising { (T : Setup) → IsSetup T → (J : List Entry) → IsSchedule T J
-        → IsRising (map (λ l. l.key) (lives T J)) }
-    ensures told { (T : Setup) → IsSetup T → (J : List Entry) → IsSchedule T J
-        → (k : KeyName) (n : ℕ)
-        → n ≤ length J → told_of (lives T J) k n ≡ holder T J k n }
-    ensures there { (T : Setup) → IsSetup T → (J : List Entry) → IsSchedule T J
-        → (k : KeyName) (n : ℕ)
-        → n ≤ length J → IsThere (world_after T (take n J)) k (told_of (lives T J) k n) }
+    ensures made { Always (λ T J. (k : KeyName) → Contains (made T J) k → IsSome (life T J k)) }
+    ensures no_other { Always (λ T J. (k : KeyName) → IsSome (life T J k) → Contains (made T J) k) }
+    ensures rising { Always (λ T J. IsRising (map (λ l. l.key) (lives T J))) }
+    ensures told { Always (λ T J. (k : KeyName) (n : ℕ) → n ≤ length J →
+        told_of (lives T J) k n ≡ holder T J k n) }
+    ensures there { Always (λ T J. (k : KeyName) (n : ℕ) → n ≤ length J →
+        IsThere (world_after T (take n J)) k (told_of (lives T J) k n)) }
 {}
 
 /// How the lives of all made keys grow with each entry, so that one pass through a journal is
@@ -155,9 +149,8 @@ pub fn open_jobs_move_no_keys()
 
 /// A reply of a schedule has a call of its VPE at or before it.
 pub fn replies_follow_calls()
-    ensures called { (T : Setup) → IsSetup T → (J : List Entry) → IsSchedule T J
-        → (n : ℕ) (e : Entry) (r : Reply) → IsAt J n e → e.reply ≡ Some r
-        → (b : ℕ) × (b ≤ n) × IsCallAt J r.vpe b }
+    ensures called { Always (λ T J. (n : ℕ) (e : Entry) (r : Reply) → IsAt J n e →
+        e.reply ≡ Some r → (b : ℕ) × (b ≤ n) × IsCallAt J r.vpe b) }
 {}
 
 /// There is at most one answer to the question why an entry of a journal denies a call.
@@ -169,6 +162,5 @@ pub fn denials_have_one_text()
 /// There is an answer to the question why entry n of a schedule denies a call: the line of a
 /// denial, or that the entry denies none.
 pub fn denials_are_explained()
-    ensures answer { (T : Setup) → IsSetup T → (J : List Entry) → IsSchedule T J → (n : ℕ)
-        → (text : List ℕ) × IsDenied T J n text }
+    ensures answer { Always (λ T J. (n : ℕ) → (text : List ℕ) × IsDenied T J n text) }
 {}

@@ -8,7 +8,7 @@ use Rattle.std.proofs.lemmas.Option.{none-some}
 use Rattle.std.proofs.lemmas.Slice.Eq.{bytes_eq-Decides}
 use Rattle.sem_msg.specs.Setup.{Setup, IsSetup}
 use Rattle.sem_trace.specs.Refusal.{lines_refusal}
-use Rattle.sem_trace.specs.Standing.{setup_of}
+use Rattle.sem_trace.specs.SetupOfText.{setup_of}
 use Rattle.sem_trace.specs.TraceText.{canonical}
 use Rattle.sem_report.specs.WholeLines.{whole_lines, content}
 use Rattle.sem_report.specs.ReportRefusal.{is_end_line, trace_section, setup_in, head_fault, line_later, trace_refusal, spelling_fault, first_difference}

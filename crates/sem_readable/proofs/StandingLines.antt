@@ -19,7 +19,7 @@ use Rattle.sem_trace.specs.Earlier.{first_some, window_in, is_ended}
 use Rattle.sem_trace.specs.Context.{context_fault}
 use Rattle.sem_trace.specs.Refusal.{version_in, is_third, body_fault, words_fault, line_fault, numbers, fault_at, first_fault, version_of, kernels_of}
 use Rattle.sem_trace.specs.Refusal.{declarations_of, end_fault, lines_refusal}
-use Rattle.sem_trace.specs.Standing.{setup_of}
+use Rattle.sem_trace.specs.SetupOfText.{setup_of}
 use Rattle.sem_reader.specs.Accepted.{AreAccepted}
 use Rattle.sem_reader.specs.Reads.{with_line}
 use Rattle.sem_reader.proofs.InRange.{at_place, number_in, one_of, form_ranges}

@@ -26,7 +26,7 @@ use Rattle.sem_trace.specs.declared.declaration.Declaration.TheVariants.{Window,
 use Rattle.sem_trace.specs.Earlier.{first_some, said_window, window_in, said_owner, owner_in, said_pe, pe_in, said_root, roots_in, said_call, calls_in, vpe_in}
 use Rattle.sem_trace.specs.Earlier.{said_offer, offer_in, says_deny, is_denied, said_kill, kill_in}
 use Rattle.sem_trace.specs.Refusal.{numbers}
-use Rattle.sem_trace.specs.Standing.{window_of, vpes_of, services_among, services_of, offer_of, offers_of, deny_of, denies_of, kills_of, setup_of}
+use Rattle.sem_trace.specs.SetupOfText.{window_of, vpes_of, services_among, services_of, offer_of, offers_of, deny_of, denies_of, kills_of, setup_of}
 use Rattle.sem_reader.proofs.Enumerated.{in_cons, in_nil, here, there, pairs_head, pairs_tail, given, gives, joined, joins, range_has}
 use Rattle.sem_reader.proofs.Sections.{window_decls, all_pes, root_says, root_decl, vpe_decl, offer_decl, deny_decl, kill_decl, section, said_by, rank, in_map}
 use Rattle.sem_reader.proofs.Sections.{map_has, in_first, has_pe, in_section, has_section, ranked}

@@ -16,7 +16,7 @@ use Rattle.sem_trace.proofs.Nodes.{node_small}
 use Rattle.sem_trace.specs.declared.declaration.Declaration.{Declaration}
 use Rattle.sem_trace.specs.Earlier.{pe_in, roots_in, calls_in, vpe_in, is_denied}
 use Rattle.sem_trace.specs.Refusal.{numbers}
-use Rattle.sem_trace.specs.Standing.{vpes_of, deny_of, denies_of}
+use Rattle.sem_trace.specs.SetupOfText.{vpes_of, deny_of, denies_of}
 use Rattle.sem_reader.specs.Accepted.{AreAccepted}
 use Rattle.sem_reader.specs.Pairs.{is_same_pair, compare_pairs}
 use Rattle.sem_reader.proofs.Enumerated.{given, gives, joined, joins, range_has}

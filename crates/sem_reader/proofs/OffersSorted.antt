@@ -25,7 +25,7 @@ use Rattle.sem_msg.specs.Setup.{ComesBefore, offer_place, services_from, service
 use Rattle.sem_trace.specs.declared.declaration.Declaration.{Declaration}
 use Rattle.sem_trace.specs.Earlier.{roots_in, has_service, offer_in}
 use Rattle.sem_trace.specs.Refusal.{numbers}
-use Rattle.sem_trace.specs.Standing.{vpes_of, services_of, offer_of, offers_of}
+use Rattle.sem_trace.specs.SetupOfText.{vpes_of, services_of, offer_of, offers_of}
 use Rattle.sem_reader.specs.Accepted.{AreAccepted}
 use Rattle.sem_reader.specs.Pairs.{is_same_pair, compare_pairs, compare_entries, offer_with}
 use Rattle.sem_reader.proofs.Enumerated.{here, given, gives, joins, range_has, pairs_given}

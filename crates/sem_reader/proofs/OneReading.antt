@@ -5,7 +5,7 @@ use Rattle.sem_msg.specs.Setup.{Setup}
 use Rattle.sem_trace.specs.declared.fault.TraceFault.{TraceFault}
 use Rattle.sem_trace.specs.TextLines.{lines_of}
 use Rattle.sem_trace.specs.Refusal.{version_of, kernels_of, declarations_of, refusal}
-use Rattle.sem_trace.specs.Standing.{setup_of, Stands}
+use Rattle.sem_trace.specs.SetupOfText.{setup_of, Stands}
 
 read_or_refused : (bytes : List ℕ) (o : Option TraceFault) → refusal bytes ≡ o →
     ((T : Setup) × Stands bytes T) ⊎ ((fault : TraceFault) × (refusal bytes ≡ Some fault))

@@ -17,7 +17,7 @@ use Rattle.sem_trace.specs.TextLines.{lines_of, words_of, is_significant, signif
 use Rattle.sem_trace.specs.Declarations.{declaration}
 use Rattle.sem_trace.specs.Earlier.{first_some, is_ended}
 use Rattle.sem_trace.specs.Refusal.{lines_refusal, line_fault, numbers, fault_at, first_fault, version_of, kernels_of, declarations_of, end_fault, refusal}
-use Rattle.sem_trace.specs.Standing.{Declare, setup_of, Stands, IsWhy}
+use Rattle.sem_trace.specs.SetupOfText.{Declare, setup_of, Stands, IsWhy}
 use Rattle.sem_msg.specs.Setup.{Setup}
 use Rattle.sem_reader.specs.declared.reader.Stage.{Stage}
 use Rattle.sem_reader.specs.declared.reader.Stage.TheVariants.{Start, Named, Counted, Open, Ended}

@@ -30,7 +30,7 @@ use Rattle.sem_trace.specs.declared.declaration.Declaration.{Declaration}
 use Rattle.sem_trace.specs.declared.declaration.Declaration.TheVariants.{Call as Calls}
 use Rattle.sem_trace.specs.Earlier.{window_in, owner_in, pe_in, roots_in, said_call, calls_in, vpe_in, offer_in, is_denied, kill_in, call_number, is_call}
 use Rattle.sem_trace.specs.Refusal.{numbers}
-use Rattle.sem_trace.specs.Standing.{window_of, vpes_of, services_among, named, services_of, offer_of, offers_of, deny_of, denies_of, kills_of, setup_of}
+use Rattle.sem_trace.specs.SetupOfText.{window_of, vpes_of, services_among, named, services_of, offer_of, offers_of, deny_of, denies_of, kills_of, setup_of}
 use Rattle.sem_reader.specs.Accepted.{AreAccepted}
 use Rattle.sem_reader.specs.Tells.{IsPlainVpe}
 use Rattle.sem_reader.proofs.OneMore.{calls_in-same, calls_in-new, call_number-more}

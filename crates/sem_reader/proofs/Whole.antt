@@ -22,7 +22,7 @@ use Rattle.sem_trace.specs.Earlier.{first_some, is_end, is_ended}
 use Rattle.sem_trace.specs.Context.{context_fault}
 use Rattle.sem_trace.specs.Refusal.{version_in, is_third, body_fault, words_fault, line_fault, numbers, fault_at, first_fault, version_of, kernels_of}
 use Rattle.sem_trace.specs.Refusal.{declarations_of, end_fault, refusal}
-use Rattle.sem_trace.specs.Standing.{setup_of, Stands}
+use Rattle.sem_trace.specs.SetupOfText.{setup_of, Stands}
 use Rattle.sem_trace.proofs.Nodes.{few_kernels}
 use Rattle.sem_reader.proofs.Enumerated.{in_cons, here, there, all_in, pairs_joined, in_range, range_rises}
 use Rattle.sem_reader.proofs.PlainText.{are_plain, width, bare, words_printed, lines_printed, bytes_fit, length-bare, length-text}

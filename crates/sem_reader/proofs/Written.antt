@@ -31,7 +31,7 @@ use Rattle.sem_trace.specs.TraceText.{pe_line, vpe_line, root_line_of, root_line
 use Rattle.sem_trace.specs.Earlier.{vpe_in}
 use Rattle.sem_trace.specs.Ranges.{IsInRange}
 use Rattle.sem_trace.specs.Refusal.{numbers}
-use Rattle.sem_trace.specs.Standing.{vpes_of, named, services_among, services_of, offer_of, offers_of, deny_of, denies_of, kills_of}
+use Rattle.sem_trace.specs.SetupOfText.{vpes_of, named, services_among, services_of, offer_of, offers_of, deny_of, denies_of, kills_of}
 use Rattle.sem_trace.proofs.Nodes.{node_small}
 use Rattle.sem_reader.proofs.Enumerated.{here, there}
 use Rattle.sem_reader.proofs.PlainText.{is_plain_word, are_plain, width, plain-decimal}

@@ -4,7 +4,7 @@ ghost use Rattle.sem_msg.specs.Setup.{Setup as SetupRecord, IsSetup};
 ghost use Rattle.sem_trace.specs.declared.fault.TraceFault.{TraceFault};
 ghost use Rattle.sem_trace.specs.Refusal.{refusal};
 ghost use Rattle.sem_trace.specs.TraceText.{canonical};
-ghost use Rattle.sem_trace.specs.Standing.{Stands};
+ghost use Rattle.sem_trace.specs.SetupOfText.{Stands};
 
 /// Each text stands for exactly one setup or has exactly one refusal, and never both.
 pub fn one_reading()

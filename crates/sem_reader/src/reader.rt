@@ -2,7 +2,7 @@ ghost use Rattle.std.specs.Prelude.{◌≡◌, ◌≤◌, ◌==◌, if◌then◌
 ghost use Rattle.sem_trace.specs.LineErrors.{Stops};
 ghost use Rattle.sem_trace.specs.TextLines.{lines_of, words_of};
 ghost use Rattle.sem_trace.specs.Refusal.{first_fault, lines_refusal, refusal};
-ghost use Rattle.sem_trace.specs.Standing.{Declare, Stands, IsWhy};
+ghost use Rattle.sem_trace.specs.SetupOfText.{Declare, Stands, IsWhy};
 ghost use Rattle.sem_trace.specs.Earlier.{is_end};
 ghost use Rattle.sem_reader.specs.Tells.{HasSizes};
 ghost use Rattle.sem_reader.specs.Reads.{Accepts, Refuses, AcceptsLine, RefusesLine, IsReadUpTo};

@@ -16,7 +16,7 @@ use Rattle.sem_trace.specs.Ranges.{IsKeyInText}
 use Rattle.sem_key.specs.declared.limits.TheConstants.{KERNELS}
 use Rattle.sem_trace.specs.Forms.{parts_of}
 use Rattle.sem_trace.specs.Words.{key_word}
-use Rattle.sem_trace.specs.Standing.{Stands}
+use Rattle.sem_trace.specs.SetupOfText.{Stands}
 use Rattle.sem_trace.specs.TraceText.{canonical, trace_lines}
 use Rattle.sem_journal.specs.EntryText.{entry_words}
 use Rattle.sem_journal.specs.EntryRanges.{EntryFits}

@@ -16,7 +16,7 @@ use Rattle.sem_text.specs.Lines.{line, text}
 use Rattle.sem_key.specs.declared.limits.TheConstants.{KERNELS}
 use Rattle.sem_trace.specs.TextLines.{lines_of}
 use Rattle.sem_trace.specs.Refusal.{version_in, lines_refusal, refusal}
-use Rattle.sem_trace.specs.Standing.{Stands, Declare}
+use Rattle.sem_trace.specs.SetupOfText.{Stands, Declare}
 use Rattle.sem_trace.specs.TraceText.{canonical, trace_lines}
 use Rattle.sem_journal.specs.EntryForms.{entry_form}
 use Rattle.sem_journal.specs.EntryText.{entry_words}

@@ -26,19 +26,19 @@ use Rattle.std.specs.Option.{option_or, option_map}
 use Rattle.std.specs.Prelude.{unwrap_or, codes}
 use Rattle.sem_trace.specs.Declarations.{number_at}
 use Rattle.sem_trace.specs.Refusal.{version_in}
-use Rattle.sem_trace.specs.Standing.{IsWhy}
+use Rattle.sem_trace.specs.SetupOfText.{IsWhy}
 use Rattle.sem_report.specs.WholeLines.{whole_lines, content}
 use Rattle.sem_report.specs.ReportRefusal.{Form, report_form, report_version, count_form, audit_forms, forms_behind, words_in, count_at, report_line_fault}
 use Rattle.sem_report.specs.ReportRefusal.{forms_fault}
 use Rattle.sem_trace.specs.Forms.{whole_line}
-use Rattle.sem_report.specs.ReadsReport.{Because, Follows, Stops, NextLine, OneEntry, IsMissing}
+use Rattle.sem_report.specs.ReadsReport.{Because, HaveForms, Stops, NextLine, OneEntry, IsMissing}
 
 pub missing_stops : (form : Form) (n : ℕ) (lines : List (List ℕ)) (e : TraceError) → IsMissing n lines e → Stops (form ∷ []) n lines e
 unfolding forms_fault
 missing_stops form n lines e missing = rw (missing.1, missing.0) (λ more. refl)
 
 pub line_follows : (form : Form) (n m : ℕ) (text whole behind : List ℕ) → NextLine n text whole m behind → report_line_fault form whole ≡ None →
-    Follows (form ∷ []) (n + 1) (whole_lines text) (m + 1) (whole_lines behind)
+    HaveForms (form ∷ []) (n + 1) (whole_lines text) (m + 1) (whole_lines behind)
 unfolding forms_fault
 line_follows form n m text whole behind next good = rw (next.lines, good, next.number) (λ more. refl)
 
@@ -49,15 +49,15 @@ line_stops form n m text whole behind (Refused cause) next because = rw (next.li
 line_stops form n m text whole behind Memory next because = tt
 
 -- one line more of the same form
-pub follows_more : (form : Form) (i n m k : ℕ) (first next last : List (List ℕ)) → Follows (replicate i form) n first m next →
-    Follows (form ∷ []) m next k last → Follows (replicate (i + 1) form) n first k last
+pub follows_more : (form : Form) (i n m k : ℕ) (first next last : List (List ℕ)) → HaveForms (replicate i form) n first m next →
+    HaveForms (form ∷ []) m next k last → HaveForms (replicate (i + 1) form) n first k last
 follows_more form i n m k first next last so_far one more =
     let forms : replicate (i + 1) form ++ more ≡ replicate i form ++ form ∷ more =
     ap (λ (fs : List Form). fs ++ more) (sym (replicate-append-replicate i 1 form)) ∙ append_assoc (replicate i form) (form ∷ []) more in
     ap (λ (fs : List Form). forms_fault n fs first) forms ∙ (so_far (form ∷ more) ∙ one more)
 
 -- a line that does not have the form of those before it
-pub stops_at : (form : Form) (i number n m : ℕ) (first next : List (List ℕ)) (e : TraceError) → Follows (replicate i form) n first m next → i < number →
+pub stops_at : (form : Form) (i number n m : ℕ) (first next : List (List ℕ)) (e : TraceError) → HaveForms (replicate i form) n first m next → i < number →
     Stops (form ∷ []) m next e → Stops (replicate number form) n first e
 stops_at form i number n m first next (RefusedText fault) so_far within stops = λ more.
     let rest : ℕ = number - i - 1 in
@@ -126,12 +126,12 @@ line_more n lines behind whole cause is because = rw is (told (bytes_fault (cont
     told (Some other) cause because = rw because refl
 
 -- lines of some forms, and then of others
-pub follows_both : (forms others : List Form) (n m k : ℕ) (first next last : List (List ℕ)) → Follows forms n first m next → Follows others m next k last →
-    Follows (forms ++ others) n first k last
+pub follows_both : (forms others : List Form) (n m k : ℕ) (first next last : List (List ℕ)) → HaveForms forms n first m next → HaveForms others m next k last →
+    HaveForms (forms ++ others) n first k last
 follows_both forms others n m k first next last one other more = ap (λ (fs : List Form). forms_fault n fs first) (append_assoc forms others more)
     ∙ (one (others ++ more) ∙ other more)
 
-pub stops_behind : (forms others : List Form) (n m : ℕ) (first next : List (List ℕ)) (e : TraceError) → Follows forms n first m next → Stops others m next e →
+pub stops_behind : (forms others : List Form) (n m : ℕ) (first next : List (List ℕ)) (e : TraceError) → HaveForms forms n first m next → Stops others m next e →
     Stops (forms ++ others) n first e
 stops_behind forms others n m first next (RefusedText fault) one other =
     λ more. ap (λ (fs : List Form). forms_fault n fs first) (append_assoc forms others more) ∙ (one (others ++ more) ∙ other more)

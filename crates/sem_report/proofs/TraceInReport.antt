@@ -20,7 +20,7 @@ use Rattle.sem_trace.specs.declared.fault.TraceError.TheVariants.{Refused as Ref
 use Rattle.sem_trace.specs.TextLines.{lines_of}
 use Rattle.sem_trace.specs.Earlier.{first_some, is_ended}
 use Rattle.sem_trace.specs.Refusal.{fault_at, first_fault, end_fault, lines_refusal, numbers, declarations_of, version_of, kernels_of}
-use Rattle.sem_trace.specs.Standing.{Declare, IsWhy, setup_of}
+use Rattle.sem_trace.specs.SetupOfText.{Declare, IsWhy, setup_of}
 use Rattle.sem_trace.specs.TraceText.{canonical}
 use Rattle.sem_report.specs.WholeLines.{whole_lines, content}
 use Rattle.sem_report.specs.ReportRefusal.{head_fault, trace_refusal, first_difference, setup_in}

@@ -11,14 +11,14 @@ use Rattle.sem_trace.specs.LineErrors.{fault_of}
 use Rattle.sem_trace.specs.declared.fault.Cause.TheVariants.{InputTooLong}
 use Rattle.sem_trace.specs.declared.fault.TraceError.{TraceError}
 use Rattle.sem_trace.specs.declared.fault.TraceError.TheVariants.{Refused as RefusedText, Memory as NoMemory}
-use Rattle.sem_trace.specs.Standing.{IsWhy}
+use Rattle.sem_trace.specs.SetupOfText.{IsWhy}
 use Rattle.sem_trace.specs.TraceText.{canonical, trace_lines}
 use Rattle.sem_journal.specs.ReportText.{journal_lines, audit_lines, report_text}
 use Rattle.sem_report.specs.WholeLines.{whole_lines}
 use Rattle.sem_trace.specs.Forms.{whole_line}
 use Rattle.sem_report.specs.ReportRefusal.{Form, report_form, report_version, forms_fault, forms_behind, trace_section, trace_refusal, setup_in}
 use Rattle.sem_report.specs.ReportRefusal.{refusal_behind, report_refusal}
-use Rattle.sem_report.specs.ReadsReport.{Follows, Stops, IsRefused}
+use Rattle.sem_report.specs.ReadsReport.{HaveForms, Stops, IsRefused}
 
 pub too_long : (bytes : List ℕ) → 134217728 < length bytes → report_refusal bytes ≡ Some (fault_of 0 (whole_line InputTooLong))
 unfolding report_refusal
@@ -68,13 +68,13 @@ behind_refused version bytes lines behind T n (RefusedText fault) headed traced 
 behind_refused version bytes lines behind T n NoMemory headed traced stops = tt
 
 pub behind_last : (version : ℕ) (bytes : List ℕ) (lines behind last : List (List ℕ)) (T : Setup) (n m : ℕ) → IsHeaded version bytes lines →
-    IsTraced version lines behind T n → Follows (forms_behind version T.kernels behind) (n + 1) behind (m + 1) last →
+    IsTraced version lines behind T n → HaveForms (forms_behind version T.kernels behind) (n + 1) behind (m + 1) last →
     report_refusal bytes ≡ forms_fault (m + 1) [] last
 behind_last version bytes lines behind last T n m headed traced follows = behind_trace version bytes lines behind T n headed traced
     ∙ (ap (λ (fs : List Form). forms_fault (n + 1) fs behind) (sym (append-nil (forms_behind version T.kernels behind))) ∙ follows [])
 
 pub last_refused : (version : ℕ) (bytes : List ℕ) (lines behind last : List (List ℕ)) (T : Setup) (n m : ℕ) (e : TraceError) → IsHeaded version bytes lines →
-    IsTraced version lines behind T n → Follows (forms_behind version T.kernels behind) (n + 1) behind (m + 1) last →
+    IsTraced version lines behind T n → HaveForms (forms_behind version T.kernels behind) (n + 1) behind (m + 1) last →
     IsRefused (forms_fault (m + 1) [] last) e → IsWhy (report_refusal bytes) e
 last_refused version bytes lines behind last T n m (RefusedText fault) headed traced follows refused =
     behind_last version bytes lines behind last T n m headed traced follows ∙ refused

@@ -23,8 +23,9 @@ Because known Memory = Unit {0}
 
 -- lines from number n on have these forms, and what is wrong with all of them is what is wrong with
 -- the rest, from number m on
-abbrev pub Follows : List Form → ℕ → List (List ℕ) → ℕ → List (List ℕ) → Type 0
-Follows forms n lines m rest = (more : List Form) → forms_fault n (forms ++ more) lines ≡ forms_fault m more rest
+abbrev pub HaveForms : List Form → ℕ → List (List ℕ) → ℕ → List (List ℕ) → Type 0
+HaveForms forms n lines m rest = (more : List Form) →
+    forms_fault n (forms ++ more) lines ≡ forms_fault m more rest
 
 -- lines from number n on do not have these forms, or memory was refused
 abbrev pub Stops : List Form → ℕ → List (List ℕ) → TraceError → Type 0

@@ -14,7 +14,7 @@ use Rattle.sem_trace.specs.Forms.Place.{Word}
 use Rattle.sem_trace.specs.Declarations.{stands_at, number_at}
 use Rattle.sem_trace.specs.LineErrors.{fault_of}
 use Rattle.sem_trace.specs.Refusal.{lines_refusal, version_in, version_of, kernels_of, declarations_of}
-use Rattle.sem_trace.specs.Standing.{setup_of}
+use Rattle.sem_trace.specs.SetupOfText.{setup_of}
 use Rattle.sem_trace.specs.TraceText.{canonical}
 use Rattle.sem_journal.specs.EntryForms.{entry_form, has_long_memory, long_word}
 use Rattle.sem_report.specs.WholeLines.{whole_lines, content}

@@ -2,7 +2,7 @@
 ghost use Rattle.std.specs.Prelude.{◌≡◌, ◌+◌, ◌≤◌, ◌⊎◌, [], ◌∷◌, ◌++◌, length, take, drop, map};
 ghost use Rattle.std.specs.Prelude.{replicate, All, codes, decimal, None, IfOk, IfErr, OnOk};
 ghost use Rattle.sem_text.specs.Lines.{line as line_lem, text};
-ghost use Rattle.sem_trace.specs.Standing.{IsWhy};
+ghost use Rattle.sem_trace.specs.SetupOfText.{IsWhy};
 ghost use Rattle.sem_trace.specs.TraceText.{canonical};
 ghost use Rattle.sem_msg.specs.Audits.{held_pairs};
 ghost use Rattle.sem_journal.specs.EntryForms.{entry_form};
@@ -16,7 +16,7 @@ ghost use Rattle.sem_report.specs.ReportRefusal.{count_form, held_form, audit_fo
 ghost use Rattle.sem_report.specs.ReportRefusal.{forms_fault, forms_behind};
 ghost use Rattle.sem_report.specs.ReportRefusal.{trace_section, trace_refusal, setup_in};
 ghost use Rattle.sem_report.specs.ReportRefusal.{report_refusal};
-ghost use Rattle.sem_report.specs.ReadsReport.{Follows, Stops, NextLine, OneEntry, IsMissing};
+ghost use Rattle.sem_report.specs.ReadsReport.{HaveForms, Stops, NextLine, OneEntry, IsMissing};
 ghost use Rattle.sem_report.specs.ReadsReport.{IsRefused, IsBelow, later};
 ghost use Rattle.sem_report.specs.ReportRanges.{HeldFits, ReportFits};
 
@@ -99,7 +99,7 @@ impl<'a> Lines<'a> {
     // Reads a line of one word.
     fn name(&mut self, name: &[u8]) -> Result<(), TraceError>
         requires room { self.old.number + length self.old.rest.now ≤ 1000000000 }
-        ensures ok { OnOk result (Follows (name_form name.now ∷ []) (self.old.number + 1)
+        ensures ok { OnOk result (HaveForms (name_form name.now ∷ []) (self.old.number + 1)
             (whole_lines self.old.rest.now) (self.new.number + 1)
             (whole_lines self.new.rest.now)) }
         ensures err { IfErr result (Stops (name_form name.now ∷ []) (self.old.number + 1)
@@ -120,7 +120,7 @@ impl<'a> Lines<'a> {
     // Reads a line of a word and a number.
     fn count(&mut self, name: &[u8]) -> Result<u64, TraceError>
         requires room { self.old.number + length self.old.rest.now ≤ 1000000000 }
-        ensures ok { OnOk result (Follows (count_form name.now ∷ []) (self.old.number + 1)
+        ensures ok { OnOk result (HaveForms (count_form name.now ∷ []) (self.old.number + 1)
             (whole_lines self.old.rest.now) (self.new.number + 1)
             (whole_lines self.new.rest.now)) }
         ensures err { IfErr result (Stops (count_form name.now ∷ []) (self.old.number + 1)
@@ -143,7 +143,7 @@ impl<'a> Lines<'a> {
     // Reads the line of a held key.
     fn held(&mut self, version: u8) -> Result<Held, TraceError>
         requires room { self.old.number + length self.old.rest.now ≤ 1000000000 }
-        ensures ok { OnOk result (Follows (held_form version ∷ []) (self.old.number + 1)
+        ensures ok { OnOk result (HaveForms (held_form version ∷ []) (self.old.number + 1)
             (whole_lines self.old.rest.now) (self.new.number + 1)
             (whole_lines self.new.rest.now)) }
         ensures err { IfErr result
@@ -163,7 +163,7 @@ impl<'a> Lines<'a> {
     fn entry(&mut self, version: u8, kernels: u32) -> Result<Entry, TraceError>
         requires room { self.old.number + length self.old.rest.now ≤ 1000000000 }
         requires kernels { 1 ≤ kernels }
-        ensures ok { OnOk result (Follows (entry_form version kernels ∷ []) (self.old.number + 1)
+        ensures ok { OnOk result (HaveForms (entry_form version kernels ∷ []) (self.old.number + 1)
             (whole_lines self.old.rest.now) (self.new.number + 1)
             (whole_lines self.new.rest.now)) }
         ensures err { IfErr result (Stops (entry_form version kernels ∷ []) (self.old.number + 1)
@@ -191,7 +191,7 @@ impl<'a> Lines<'a> {
     ) -> Result<(), TraceError>
         requires room { self.old.number + length self.old.rest.now ≤ 1000000000 }
         requires kernels { 1 ≤ kernels }
-        ensures ok { OnOk result (Follows (entry_form version kernels ∷ []) (self.old.number + 1)
+        ensures ok { OnOk result (HaveForms (entry_form version kernels ∷ []) (self.old.number + 1)
             (whole_lines self.old.rest.now) (self.new.number + 1)
             (whole_lines self.new.rest.now)) }
         ensures err { IfErr result (Stops (entry_form version kernels ∷ []) (self.old.number + 1)
@@ -224,7 +224,7 @@ impl<'a> Lines<'a> {
     ) -> Result<Journal, TraceError>
         requires room { self.old.number + length self.old.rest.now ≤ 1000000000 }
         requires kernels { 1 ≤ kernels }
-        ensures ok { OnOk result (Follows (replicate number (entry_form version kernels))
+        ensures ok { OnOk result (HaveForms (replicate number (entry_form version kernels))
             (self.old.number + 1) (whole_lines self.old.rest.now) (self.new.number + 1)
             (whole_lines self.new.rest.now)) }
         ensures err { IfErr result (Stops (replicate number (entry_form version kernels))
@@ -247,7 +247,7 @@ impl<'a> Lines<'a> {
     // Reads the lines of that many held keys.
     fn held_keys(&mut self, alloc: Global, number: u64, version: u8) -> Result<HeldList, TraceError>
         requires { self.old.number + length self.old.rest.now ≤ 1000000000 }
-        ensures ok { OnOk result (Follows (replicate number (held_form version))
+        ensures ok { OnOk result (HaveForms (replicate number (held_form version))
             (self.old.number + 1) (whole_lines self.old.rest.now) (self.new.number + 1)
             (whole_lines self.new.rest.now)) }
         ensures err { IfErr result (Stops (replicate number (held_form version))
@@ -273,7 +273,7 @@ impl<'a> Lines<'a> {
     fn audit(&mut self, alloc: Global, version: u8) -> Result<Audit, TraceError>
         requires { self.old.number + length self.old.rest.now ≤ 1000000000 }
         ensures ok { OnOk result
-            (Follows (audit_forms version (count_at (whole_lines self.old.rest.now) 3))
+            (HaveForms (audit_forms version (count_at (whole_lines self.old.rest.now) 3))
             (self.old.number + 1) (whole_lines self.old.rest.now) (self.new.number + 1)
             (whole_lines self.new.rest.now)) }
         ensures err { IfErr result
@@ -365,7 +365,7 @@ impl<'a> Lines<'a> {
         requires room { self.old.number + length self.old.rest.now ≤ 1000000000 }
         requires kernels { 1 ≤ kernels }
         ensures ok { OnOk result
-            (Follows (forms_behind version kernels (whole_lines self.old.rest.now))
+            (HaveForms (forms_behind version kernels (whole_lines self.old.rest.now))
             (self.old.number + 1) (whole_lines self.old.rest.now) (self.new.number + 1)
             (whole_lines self.new.rest.now)) }
         ensures err { IfErr result

@@ -20,7 +20,7 @@ use Rattle.sem_machine.specs.Journals.{grants}
 use Rattle.sem_machine.specs.Living.{HoldsCap}
 use Rattle.sem_machine.proofs.Weighing.{weigh-among}
 use Rattle.sem_revoke.specs.Resting.{Names, HasMarkedParent}
-use Rattle.sem_revoke.specs.Scales.{names, asking}
+use Rattle.sem_revoke.specs.Scales.{names, requesting}
 use Rattle.sem_revoke.specs.Views.{Under}
 use Rattle.sem_revoke.proofs.Events.{Par, Made}
 use Rattle.sem_revoke.proofs.Linking.{holds}
@@ -54,8 +54,8 @@ module _ (T : Setup) (valid : IsSetup T) (J : List Entry) (runs : IsSchedule T J
       let there = found (λ (x : JobRow). x.id == n) (side W i').jobs y open_ in
       let one = one-true (key_eq y.root y.root && names i' y.up i j) (and_from (key_eq y.root y.root) (names i' y.up i j) (key_eq-same y.root)
       (named y.up i' i j named_so)) in
-      let among = weigh-among ((asking y.root i j).job i') (side W i').jobs y there.0 in
-      let part = jobs-part (asking y.root i j) W i' in
+      let among = weigh-among ((requesting y.root i j).job i') (side W i').jobs y there.0 in
+      let part = jobs-part (requesting y.root i j) W i' in
       under-parent y.root i j ((holds T valid J runs).asking y.root i j (omega (arith, one, among, part)))
 
   pub marked-below : (i : ℕ) (k : KeyName) (c : Capability) (j : ℕ) (x : JobRow) → HoldsCap W i k c → c.mark ≡ Some j → job (side W i) j ≡ Some x →

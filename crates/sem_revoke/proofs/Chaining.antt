@@ -33,8 +33,8 @@ use Rattle.sem_machine.proofs.Weighing.{weigh-none, weigh-put}
 use Rattle.sem_safety.proofs.Lives.{at_side, at_cap, at_parked, lives-parked, lives-send}
 use Rattle.sem_sound.proofs.Rising.{filtered-rises}
 use Rattle.sem_safety.proofs.JobIds.{ids}
-use Rattle.sem_revoke.specs.Views.{Hand, free_hand, token, closing}
-use Rattle.sem_revoke.specs.Scales.{of_side, one_if, names, asking, naming, counting, noticing, straying}
+use Rattle.sem_revoke.specs.Views.{Hand, free_hand, token, closing_job}
+use Rattle.sem_revoke.specs.Scales.{of_side, one_if, names, requesting, naming, counting, noticing, straying}
 use Rattle.sem_revoke.proofs.Keeping.{HoldsOn, holds-same, fit-on, keep, Sweeps, keep_swept, fit-swept, not-gone}
 use Rattle.sem_revoke.proofs.Scaling.{side-removed}
 use Rattle.sem_revoke.proofs.Viewing.{on_its_way, Rises, rises_distinct, Scene, one-more, one-true, owner, view, IsAlive, IsGone, IsMarked, Row, hold-here}
@@ -115,7 +115,7 @@ module _ (C : Scene) where
 
   -- A job that is being closed: nothing is marked by it. Its root is gone, or kept, and then no job waits for it.
   pub record Closing (x : JobRow) (s : Side) : Type 0 where
-    pub row : Row C (closing i x.id) s
+    pub row : Row C (closing_job i x.id) s
     pub open_ : job s x.id ≡ Some x
     pub gone : x.keep ≡ false → IsGone C s x.root × C.made x.root
     pub kept : x.keep ≡ true → x.up ≡ None
@@ -320,7 +320,7 @@ module _ (C : Scene) where
 
   unlinked-closing : (x : JobRow) (s : Side) (p : KeyName) → x.keep ≡ false → Closing x s → Closing x (unlinked p x.root s)
   unlinked-closing x s p leaves K = record {
-    row = row-unlinked C s p x.root (K.gone leaves).0 (closing i x.id) K.row;
+    row = row-unlinked C s p x.root (K.gone leaves).0 (closing_job i x.id) K.row;
     open_ = K.open_;
     gone = λ _. (unlinked-gone C s p x.root x.root (K.gone leaves).0, (K.gone leaves).1);
     kept = K.kept;
@@ -329,7 +329,7 @@ module _ (C : Scene) where
 
   told-closing : (x : JobRow) (s : Side) (j : ℕ) (p : KeyName) → x.keep ≡ false → Closing x s → Closing x (send j (Unlink p x.root) s)
   told-closing x s j p leaves K = record {
-    row = row-sent C (closing i x.id) (closing i x.id) s j (Unlink p x.root) (λ k a b. refl) (λ k. refl) refl (λ a b. refl) (λ a b k alive care. care)
+    row = row-sent C (closing_job i x.id) (closing_job i x.id) s j (Unlink p x.root) (λ k a b. refl) (λ k. refl) refl (λ a b. refl) (λ a b k alive care. care)
         (λ a b k care. care) (λ a n loose. loose)
         (λ k more. let same : x.root ≡ k = key_eq-true x.root k (one-more (key_eq x.root k) more) in
         subst (λ z. IsGone C s z × C.made z) same (K.gone leaves)) K.row;
@@ -367,7 +367,7 @@ module _ (C : Scene) where
 
   woken-closing : (x : JobRow) (vs : List ℕ) (s : Side) → Closing x s → Closing x (woken vs s)
   woken-closing x vs s K = record {
-    row = rows-changed C (closing i x.id) s s.vpes s.endpoints (all_woken vs s.parks) (λ k. woken-less k vs s.parks) K.row;
+    row = rows-changed C (closing_job i x.id) s s.vpes s.endpoints (all_woken vs s.parks) (λ k. woken-less k vs s.parks) K.row;
     open_ = K.open_;
     gone = λ leaves. let is = K.gone leaves in let less = woken-less x.root vs s.parks in let zero' = is.0.1 in ((is.0.0, omega (arith, less, zero')), is.1);
     kept = K.kept;
@@ -403,8 +403,8 @@ module _ (C : Scene) where
       | inr away ↦ (job-away C s a m away ∙ (sym (job-away C u a m away) ∙ open_), λ (here, _). away here)
     ]
 
-    removed-asks : (k : KeyName) (a b : ℕ) → of_side (asking k a b) i u + one_if (key_eq x.root k && names i x.up a b) ≡ of_side (asking k a b) i s
-    removed-asks k a b = side-removed (asking k a b) i s x.id x K.row.ids.rise K.open_
+    removed-asks : (k : KeyName) (a b : ℕ) → of_side (requesting k a b) i u + one_if (key_eq x.root k && names i x.up a b) ≡ of_side (requesting k a b) i s
+    removed-asks k a b = side-removed (requesting k a b) i s x.id x K.row.ids.rise K.open_
 
     still-asked : (k : KeyName) (a b : ℕ) → IsAlive C u k → 1 ≤ (view C s).asked k a b → 1 ≤ (view C u).asked k a b
     still-asked k a b alive more = elim (cases_Bool (key_eq x.root k)) [
@@ -432,7 +432,7 @@ module _ (C : Scene) where
     pub row-without : Row C (above i x.up) u
     row-without = record {
       fit = fit-on (owner C) C.parent C.one_parent C.made (view C s) (view C u) H K.row.fit;
-      revokes = keep (owner C) C.parent C.one_parent C.made (view C s) (view C u) H (closing i x.id) (above i x.up) K.row.fit K.row.revokes
+      revokes = keep (owner C) C.parent C.one_parent C.made (view C s) (view C u) H (closing_job i x.id) (above i x.up) K.row.fit K.row.revokes
           (λ k a b alive under before. inr (inl (elim before [ inl more ↦ still-asked k a b alive more | inr care ↦ absurd care ])))
           (λ k a b more. let sum = removed-asks k a b in inl (omega (arith, sum, more)))
           (λ k m y (c, held, marked) open_. (

@@ -30,8 +30,8 @@ use Rattle.sem_safety.proofs.LiveWorlds.{sum-le}
 use Rattle.sem_safety.proofs.JobIds.{HasIds, ids}
 use Rattle.sem_sound.proofs.Rising.{mapped-rises}
 use Rattle.sem_revoke.specs.Views.{Hand, free_hand, token}
-use Rattle.sem_revoke.specs.Scales.{Scale, sum_from, of_messages, of_inbox, of_side, of_world, one_if, names, asking, naming, counting, noticing, straying}
-use Rattle.sem_revoke.specs.Scales.{asking_message, token_message}
+use Rattle.sem_revoke.specs.Scales.{Scale, sum_from, of_messages, of_inbox, of_side, of_world, one_if, names, requesting, naming, counting, noticing, straying}
+use Rattle.sem_revoke.specs.Scales.{requesting_message, token_message}
 use Rattle.sem_revoke.proofs.Keeping.{HoldsOn, holds-same, cases_Option, not-gone}
 use Rattle.sem_revoke.proofs.Scaling.{side-changed, side-removed}
 use Rattle.sem_revoke.proofs.Viewing.{on_its_way, Rises, Scene, owner, elsewhere, view, IsAlive, IsGone, Row, hold-here, hold-away, job-id, no-roots}
@@ -83,7 +83,7 @@ one-and : (t u : Bool) → one_if (t && u) ≤ one_if u
 one-and true u = omega arith
 one-and false u = omega arith
 
-asking-token : (k : KeyName) (a b from to : ℕ) (m : Message) → asking_message k a b from to m ≤ token_message a b from to m
+asking-token : (k : KeyName) (a b from to : ℕ) (m : Message) → requesting_message k a b from to m ≤ token_message a b from to m
 asking-token k a b from to (ObtainReq place target) = omega arith
 asking-token k a b from to (ObtainOk parent key object) = omega arith
 asking-token k a b from to (ObtainNo place code) = omega arith
@@ -107,8 +107,8 @@ module _ (C : Scene) where
 
   pub asked-token : (s : Side) (k : KeyName) (a b : ℕ) → (view C s).asked k a b ≤ (view C s).tokens a b
   asked-token s k a b =
-      let world = world-le (asking k a b) (naming a b) (asking-token k a b) (λ i x. one-and (key_eq x.root k) (names i x.up a b)) (elsewhere C) in
-      let here = side-le (asking k a b) (naming a b) (asking-token k a b) (λ i x. one-and (key_eq x.root k) (names i x.up a b)) i s in
+      let world = world-le (requesting k a b) (naming a b) (asking-token k a b) (λ i x. one-and (key_eq x.root k) (names i x.up a b)) (elsewhere C) in
+      let here = side-le (requesting k a b) (naming a b) (asking-token k a b) (λ i x. one-and (key_eq x.root k) (names i x.up a b)) i s in
       omega (arith, world, here)
 
   -- the jobs of this kernel count here alone
@@ -193,10 +193,10 @@ module _ (C : Scene) where
       R.rises (ids.keeps_changed s R.ids j lower (λ x. (refl, refl))) R.homes (record { inbox = R.sent.inbox; sends = R.sent.sends })
       (λ k a b alive under before. inr
       (inl (elim before [
-        | inl more ↦ (let same = side-changed (asking k a b) i s j lower x R.ids.rise open_ in omega (arith, same, more))
+        | inl more ↦ (let same = side-changed (requesting k a b) i s j lower x R.ids.rise open_ in omega (arith, same, more))
         | inr care ↦ absurd care
       ])))
-      (λ k a b more. let same = side-changed (asking k a b) i s j lower x R.ids.rise open_ in inl (omega (arith, same, more)))
+      (λ k a b more. let same = side-changed (requesting k a b) i s j lower x R.ids.rise open_ in inl (omega (arith, same, more)))
       (λ a n loose. loose)
       (λ a b.
       let tokens = side-changed (naming a b) i s j lower x R.ids.rise open_ in
@@ -205,7 +205,7 @@ module _ (C : Scene) where
       let id : one_if ((i == a) && (x.id == b)) ≡ one_if ((i == a) && (j == b)) = ap (λ n. one_if ((i == a) && (n == b))) (job-id C s j x open_) in
       let is = R.revokes.counted a b in
       omega (arith, tokens, counts, less, id, is)) (
-        λ k a b. let same = side-changed (asking k a b) i s j lower x R.ids.rise open_ in let most = R.revokes.single.0 k a b in
+        λ k a b. let same = side-changed (requesting k a b) i s j lower x R.ids.rise open_ in let most = R.revokes.single.0 k a b in
             omega (arith, same, most),
         λ k a b care. absurd care,
       )

@@ -19,7 +19,7 @@ use Rattle.sem_machine.specs.Journals.{grants}
 use Rattle.sem_machine.specs.Living.{HoldsCap, InFlight}
 use Rattle.sem_safety.proofs.OneLife.{all-grown}
 use Rattle.sem_revoke.specs.Revocation.{IsDoomed}
-use Rattle.sem_revoke.specs.Scales.{asking}
+use Rattle.sem_revoke.specs.Scales.{requesting}
 use Rattle.sem_revoke.specs.Views.{Marked, Under}
 use Rattle.sem_revoke.proofs.Events.{Par, Made, ranked, Ranks}
 use Rattle.sem_revoke.proofs.Lasting.{Caused, all-caused, lower-all, grants-on}
@@ -93,7 +93,7 @@ module _ (T : Setup) (valid : IsSetup T) (J : List Entry) (runs : IsSchedule T J
 
   pub asked-doomed : (k : KeyName) (j : ℕ) → InFlight W (RevokeReq k j) → IsDoomed J k
   asked-doomed k j (a, b, among) =
-      let weighs = way-weighs T valid before begun (asking k a j) a b (RevokeReq k j) among in
+      let weighs = way-weighs T valid before begun (requesting k a j) a b (RevokeReq k j) among in
       let one = one-true ((key_eq k k) && ((a == a) && (j == j)))
       (and_from (key_eq k k) ((a == a) && (j == j)) (key_eq-same k) (and_from (a == a) (j == j) (eq-eqb a a refl) (eq-eqb j j refl))) in
       under-doomed k a j ((holds T valid before begun).asking k a j (omega (arith, weighs, one)))

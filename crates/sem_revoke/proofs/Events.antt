@@ -32,7 +32,7 @@ use Rattle.sem_safety.proofs.Lives.{all_held, at_key, at_grant}
 use Rattle.sem_safety.proofs.LiveWorlds.{at_world}
 use Rattle.sem_safety.proofs.JobIds.{HasIds}
 use Rattle.sem_revoke.specs.Views.{free_hand, IsFit, Revokes, IsCaused}
-use Rattle.sem_revoke.specs.Scales.{Scale, sum_from, of_messages, of_side, of_inbox, of_world, asking, naming, counting, noticing, straying}
+use Rattle.sem_revoke.specs.Scales.{Scale, sum_from, of_messages, of_side, of_inbox, of_world, requesting, naming, counting, noticing, straying}
 use Rattle.sem_revoke.proofs.Scaling.{world-side}
 use Rattle.sem_revoke.proofs.Viewing.{on_its_way, Rises, Scene, Row}
 use Rattle.sem_revoke.proofs.Growing.{IsOfRevokes, Grown}
@@ -118,7 +118,7 @@ own-cap s v sel c held = from (slot s v sel) held
     from (Held k) some = ap (cap s) (key_eq-true c.key k (found (λ (x : Capability). key_eq x.key k) s.caps c some).1) ∙ some
     from Promised none = absurd cc
 
-pub of_asking : (k : KeyName) (a b : ℕ) → IsOfRevokes (asking k a b)
+pub of_asking : (k : KeyName) (a b : ℕ) → IsOfRevokes (requesting k a b)
 of_asking k a b from to (ObtainReq place target) is = refl
 of_asking k a b from to (ObtainOk parent' key object) is = refl
 of_asking k a b from to (ObtainNo place code) is = refl
@@ -307,7 +307,7 @@ module _ (T : Setup) (gs : List (KeyName × KeyName)) (W : World) (R : IsReady T
                 ∙ (ap (λ (x : Side). job x n) at-i ∙ (ap (λ (xs : List JobRow). job_of xs n) (G.jobs ∙ jobs) ∙ ap (λ b. job (side W b) n) (sym here)))
             | inr away ↦ ap (λ (x : Side). job x n) (get_or-put_other no_side W.sides i a t away)
           ];
-          asked = λ k a b. sum-same (asking k a b) (of_asking k a b);
+          asked = λ k a b. sum-same (requesting k a b) (of_asking k a b);
           tokens = λ a b. sum-same (naming a b) (of_naming a b);
           count = λ a b. sum-same (counting a b) (λ from to m is. refl);
           notices = λ k. sum-same (noticing k) (of_noticing k);

@@ -8,7 +8,7 @@ use Rattle.sem_key.specs.Capability.{Capability}
 use Rattle.sem_key.specs.CapList.{with_mark}
 use Rattle.sem_msg.specs.Rows.{JobRow}
 use Rattle.sem_key.specs.Region.{has_key}
-use Rattle.sem_revoke.specs.Views.{View, Hand, free_hand, closing, IsAlone, Alive, Gone, Marked, Under, Caught, IsFit, Revokes, IsSingle}
+use Rattle.sem_revoke.specs.Views.{View, Hand, free_hand, closing_job, IsAlone, Alive, Gone, Marked, Under, Caught, IsFit, Revokes, IsSingle}
 
 -- an option is there or not
 pub cases_Option : {X : Type 0} (o : Option X) → ((x : X) × (o ≡ Some x)) ⊎ (o ≡ None)
@@ -308,7 +308,7 @@ module _ (owner : KeyName → ℕ) (G : KeyName → KeyName → Type 0) (one : (
         omega (arith, more, zero', same)
     orphan-gone p k fit (inr (inr care)) here alive = care
 
-    pub keep_swept : IsFit owner G M V → Revokes owner G M free_hand V → Revokes owner G M (closing i n) U
+    pub keep_swept : IsFit owner G M V → Revokes owner G M free_hand V → Revokes owner G M (closing_job i n) U
     keep_swept fit R = record {
       linked = λ p k granted alive.
           let d = R.linked p k granted (swept-alive k alive) in
@@ -347,7 +347,7 @@ module _ (owner : KeyName → ℕ) (G : KeyName → KeyName → Type 0) (one : (
     }
       where
         old : (p k : KeyName) (m : ℕ) → ((owner p ≡ i) × (m ≡ n) → ⊥) → Caught owner G M free_hand V (owner p) m k →
-            Caught owner G M (closing i n) U (owner p) m k
+            Caught owner G M (closing_job i n) U (owner p) m k
         old p k m other (inl (at, marked)) = inl (at, swept-marked k m marked (λ (here, job). other (sym at ∙ here, job)))
         old p k m other (inr (inl more)) = let same = S.asked_on k (owner p) m in inr (inl (omega (arith, more, same)))
         old p k m other (inr (inr care)) = absurd care

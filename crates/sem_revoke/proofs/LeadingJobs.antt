@@ -26,7 +26,7 @@ use Rattle.sem_machine.specs.Revokes.{closed_here, closed, finish, settled, open
 use Rattle.sem_machine.proofs.Folds.{in_turn-keeps}
 use Rattle.sem_safety.specs.Seen.{AreDistinct}
 use Rattle.sem_revoke.specs.Views.{free_hand}
-use Rattle.sem_revoke.specs.Scales.{asking, names}
+use Rattle.sem_revoke.specs.Scales.{requesting, names}
 use Rattle.sem_revoke.proofs.Chaining.{done-is, next-is, row-closed}
 use Rattle.sem_revoke.proofs.Leading.{Has, Below, IsKept, Off, off-steady, off-kept, has-kept, has-mapped, either-kept, linking-cut, below-steady}
 use Rattle.sem_revoke.proofs.Pendings.{outbox-sent}
@@ -159,7 +159,7 @@ module _ (C : Scene) (p k : KeyName) (granted : C.parent p k) where
     -- a job that another kernel waits for is below a mark of it
     asked-away : x.root ≡ k → (a n : ℕ) → x.up ≡ Some (Remote a n) → (owner C p ≡ i → ⊥) → Away
     asked-away root a n up away =
-        let weighs = job-weighs C (asking k a n) t x.id x open_ in
+        let weighs = job-weighs C (requesting k a n) t x.id x open_ in
         let named : names i x.up a n ≡ true = ap (λ u. names i u a n) up ∙ and_from (a == a) (n == n) (eq-eqb a a refl) (eq-eqb n n refl) in
         let one = one-true (key_eq x.root k && names i x.up a n) (and_from (key_eq x.root k) (names i x.up a n) (key_eq-from x.root k root) named) in
         let under = R.revokes.asking k a n (omega (arith, weighs, one)) in

@@ -24,7 +24,7 @@ use Rattle.sem_safety.proofs.HeldOnce.{weigh-at}
 use Rattle.sem_safety.proofs.Lives.{at_key, at_message, at_messages, at_parked, at_side}
 use Rattle.sem_safety.proofs.LiveWorlds.{at_world}
 use Rattle.sem_revoke.specs.Views.{Alive}
-use Rattle.sem_revoke.specs.Scales.{Scale, of_world, noticing, asking}
+use Rattle.sem_revoke.specs.Scales.{Scale, of_world, noticing, requesting}
 use Rattle.sem_revoke.proofs.Keeping.{not-gone}
 use Rattle.sem_revoke.proofs.Viewing.{on_its_way, one-true}
 use Rattle.sem_revoke.proofs.Worlds.{whole}
@@ -107,7 +107,7 @@ module _ (T : Setup) (valid : IsSetup T) (J : List Entry) (runs : IsSchedule T J
   pub asked-below : (k : KeyName) (a b j : ℕ) → Contains (way W a b) (RevokeReq k j) → (p : KeyName) (c : Capability) → Contains (grants J) (p, k) →
       HoldsCap W (owner_of T p) p c → (owner_of T p ≡ a) × (c.mark ≡ Some j)
   asked-below k a b j among p c granted held =
-      let weighs = way-weighs (asking k a j) a b (RevokeReq k j) among in
+      let weighs = way-weighs (requesting k a j) a b (RevokeReq k j) among in
       let one = one-true ((key_eq k k) && ((a == a) && (j == j)))
       (and_from (key_eq k k) ((a == a) && (j == j)) (key_eq-same k) (and_from (a == a) (j == j) (eq-eqb a a refl) (eq-eqb j j refl))) in
       let u = holds.asking k a j (omega (arith, weighs, one)) in

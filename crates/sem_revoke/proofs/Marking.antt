@@ -13,7 +13,7 @@ use Rattle.sem_machine.specs.Living.{HoldsCap, IsLive}
 use Rattle.sem_machine.specs.Schedules.{IsSchedule, world_after}
 use Rattle.sem_machine.specs.Journals.{grants}
 use Rattle.sem_key.proofs.KeyTests.{has_key-from_Contains}
-use Rattle.sem_revoke.specs.Scales.{of_world, asking, naming, counting}
+use Rattle.sem_revoke.specs.Scales.{of_world, requesting, naming, counting}
 use Rattle.sem_revoke.proofs.Events.{Par, Made}
 use Rattle.sem_revoke.proofs.Linking.{live-alive, holds}
 
@@ -23,7 +23,7 @@ module _ (T : Setup) (valid : IsSetup T) (J : List Entry) (runs : IsSchedule T J
   IsMarkedBy k n = (c : Capability) × HoldsCap (world_after T J) (owner_of T k) k c × (c.mark ≡ Some n)
 
   pub marks-spread : (p k : KeyName) (d : Capability) (n : ℕ) → HoldsCap (world_after T J) (owner_of T p) p d → d.mark ≡ Some n → Contains d.children k →
-      IsLive (world_after T J) k → ((owner_of T k ≡ owner_of T p) × IsMarkedBy k n) ⊎ (1 ≤ of_world (asking k (owner_of T p) n) (world_after T J))
+      IsLive (world_after T J) k → ((owner_of T k ≡ owner_of T p) × IsMarkedBy k n) ⊎ (1 ≤ of_world (requesting k (owner_of T p) n) (world_after T J))
   marks-spread p k d n held marked child live =
       elim ((holds T valid J runs).caught p k d n held marked (has_key-from_Contains d.children k child)
       (live-alive T valid J runs (Par (grants J)) (Made T (grants J)) k live)) [

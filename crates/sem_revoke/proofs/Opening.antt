@@ -29,7 +29,7 @@ use Rattle.sem_safety.proofs.Lives.{at_side, lives}
 use Rattle.sem_safety.proofs.JobIds.{ids}
 use Rattle.sem_revoke.proofs.Closing.{changed-rises}
 use Rattle.sem_revoke.specs.Views.{Hand, IsAlone, IsCaused, free_hand, children}
-use Rattle.sem_revoke.specs.Scales.{one_if, names, asking, naming, counting, noticing, straying}
+use Rattle.sem_revoke.specs.Scales.{one_if, names, requesting, naming, counting, noticing, straying}
 use Rattle.sem_revoke.proofs.Keeping.{Begins, keep_begun, fit-begun, cases_Option}
 use Rattle.sem_revoke.proofs.Scaling.{side-opened, pairs-head, pairs-tail}
 use Rattle.sem_revoke.proofs.Viewing.{on_its_way, Scene, one-true, one-false, owner, view, IsUnder, Row, hold-here, job-here, job-away}
@@ -237,10 +237,10 @@ module _ (C : Scene) (h : Hand) (root : KeyName) (up : Option Up) (waiters : Lis
         ]
         | inr away ↦ inl (job-away C s a n away ∙ (sym (job-away C marked a n away) ∙ open_))
       ];
-      asked_on = λ k a b. let sum = side-opened (asking k a b) i s root up waiters keep in omega (arith, sum);
-      cared = λ k a b care. let sum = side-opened (asking k a b) i s root up waiters keep in
+      asked_on = λ k a b. let sum = side-opened (requesting k a b) i s root up waiters keep in omega (arith, sum);
+      cared = λ k a b care. let sum = side-opened (requesting k a b) i s root up waiters keep in
           let one = one-true (key_eq root k && names i up a b) (cares k a b care) in omega (arith, sum, one);
-      asked_back = λ k a b more. let sum = side-opened (asking k a b) i s root up waiters keep in elim (cases_Bool (key_eq root k && names i up a b)) [
+      asked_back = λ k a b more. let sum = side-opened (requesting k a b) i s root up waiters keep in elim (cases_Bool (key_eq root k && names i up a b)) [
         | inl pass ↦ inr (new-under k a b pass)
         | inr fail ↦ let none = one-false (key_eq root k && names i up a b) fail in inl (omega (arith, sum, none, more))
       ];
@@ -255,7 +255,7 @@ module _ (C : Scene) (h : Hand) (root : KeyName) (up : Option Up) (waiters : Lis
       misplaced = let sum = side-opened (straying (owner C)) i s root up waiters keep in let is = R.revokes.placed in omega (arith, sum, is);
       tight = tight;
       once = λ k a b.
-          let sum = side-opened (asking k a b) i s root up waiters keep in
+          let sum = side-opened (requesting k a b) i s root up waiters keep in
           let most = R.revokes.single.0 k a b in
           elim (cases_Bool (key_eq root k && names i up a b)) [
             | inl pass ↦ let none = R.revokes.single.1 k a b (cared k a b pass) in let one = one-true (key_eq root k && names i up a b) pass in

@@ -20,7 +20,7 @@ use Rattle.sem_safety.proofs.HeldOnce.{weigh-at}
 use Rattle.sem_safety.proofs.Lives.{at_message, at_messages, at_inbox, at_side}
 use Rattle.sem_safety.proofs.LiveWorlds.{at_world}
 use Rattle.sem_safety.proofs.GrownLines.{child-grown}
-use Rattle.sem_revoke.specs.Scales.{Scale, sum_from, of_messages, of_inbox, of_side, of_world, one_if, asking, asking_message}
+use Rattle.sem_revoke.specs.Scales.{Scale, sum_from, of_messages, of_inbox, of_side, of_world, one_if, requesting, requesting_message}
 use Rattle.sem_revoke.proofs.Viewing.{on_its_way}
 use Rattle.sem_revoke.proofs.Events.{Par, Made, IsReady, Losing, Holds}
 use Rattle.sem_revoke.proofs.Turning.{Sends}
@@ -68,14 +68,14 @@ module _ (k : KeyName) where
   ]
 
   -- where nothing is asked for, nothing is late
-  late-unasked : (from to : ℕ) (ms : List Message) → ((b : ℕ) → sum_by (asking_message k from b from to) ms ≡ 0) → late ms ≡ 0
+  late-unasked : (from to : ℕ) (ms : List Message) → ((b : ℕ) → sum_by (requesting_message k from b from to) ms ≡ 0) → late ms ≡ 0
   late-unasked from to [] none = refl
   late-unasked from to (m ∷ ms) none =
-      cond-false (is_request m) (at_messages k ms) (late ms) (no-request m (λ b. let all = sum_by-cons (asking_message k from b from to) m ms in
+      cond-false (is_request m) (at_messages k ms) (late ms) (no-request m (λ b. let all = sum_by-cons (requesting_message k from b from to) m ms in
       let zero' = none b in omega (arith, all, zero')))
-      ∙ late-unasked from to ms (λ b. let all = sum_by-cons (asking_message k from b from to) m ms in let zero' = none b in omega (arith, all, zero'))
+      ∙ late-unasked from to ms (λ b. let all = sum_by-cons (requesting_message k from b from to) m ms in let zero' = none b in omega (arith, all, zero'))
     where
-      no-request : (m : Message) → ((b : ℕ) → asking_message k from b from to m ≡ 0) → is_request m ≡ false
+      no-request : (m : Message) → ((b : ℕ) → requesting_message k from b from to m ≡ 0) → is_request m ≡ false
       no-request (ObtainReq place target) zero' = refl
       no-request (ObtainOk parent key object) zero' = refl
       no-request (ObtainNo place code) zero' = refl
@@ -261,8 +261,8 @@ module _ (T : Setup) (gs gs' : List (KeyName × KeyName)) (W : World) (R : IsRea
       omega (arith, is, one, two, three)
 
   -- what is granted was never asked for
-  unasked : (k : KeyName) → (Made T gs k → ⊥) → (a c : ℕ) → of_world (asking k a c) W ≡ 0
-  unasked k unmade a c = elim (cases_eq (of_world (asking k a c) W) 0) [
+  unasked : (k : KeyName) → (Made T gs k → ⊥) → (a c : ℕ) → of_world (requesting k a c) W ≡ 0
+  unasked k unmade a c = elim (cases_eq (of_world (requesting k a c) W) 0) [
     | inl none ↦ none
     | inr some ↦ let under = H.asking k a c (omega (arith, some)) in absurd (unmade (child-grown (root_keys T) gs under.0 k under.1))
   ]
@@ -272,9 +272,9 @@ module _ (T : Setup) (gs gs' : List (KeyName × KeyName)) (W : World) (R : IsRea
       let P : Parts a b = parts a b in
       ap (late k) P.whole_way ∙ late-unasked k a b (((P.front ++ link W a b) ++ outbox (side W a) b) ++ P.ms) (λ c. none c P)
     where
-      none : (c : ℕ) (P : Parts a b) → sum_by (asking_message k a c a b) (((P.front ++ link W a b) ++ outbox (side W a) b) ++ P.ms) ≡ 0
+      none : (c : ℕ) (P : Parts a b) → sum_by (requesting_message k a c a b) (((P.front ++ link W a b) ++ outbox (side W a) b) ++ P.ms) ≡ 0
       none c P =
-          let Q : Scale = asking k a c in
+          let Q : Scale = requesting k a c in
           let zero' = unasked k (new p k now) a c in
           let inbox = inbox-part Q W b in
           let linked = link-part Q W a b in

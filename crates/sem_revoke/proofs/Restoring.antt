@@ -7,7 +7,7 @@ use Rattle.sem_key.specs.Capability.{Capability}
 use Rattle.sem_key.specs.Region.{has_key}
 use Rattle.sem_key.proofs.KeyTests.{key_eq-true, key_eq-from}
 use Rattle.sem_msg.specs.Rows.{JobRow}
-use Rattle.sem_revoke.specs.Views.{View, Hand, free_hand, closing, Alive, Gone, Marked, Under, Caught, IsFit, Revokes}
+use Rattle.sem_revoke.specs.Views.{View, Hand, free_hand, closing_job, Alive, Gone, Marked, Under, Caught, IsFit, Revokes}
 use Rattle.sem_revoke.proofs.Keeping.{cases_Option, not-gone}
 
 -- a root that is kept
@@ -148,7 +148,7 @@ module _ (owner : KeyName → ℕ) (G : KeyName → KeyName → Type 0) (one : (
             omega (arith, more, zero', same)
         from (inr (inr care)) = care
 
-    pub keep_restored : IsFit owner G M V → Revokes owner G M free_hand V → Revokes owner G M (closing i n) U
+    pub keep_restored : IsFit owner G M V → Revokes owner G M free_hand V → Revokes owner G M (closing_job i n) U
     keep_restored fit R = record {
       linked = λ p k granted alive.
           let d = R.linked p k granted (alive-before k alive) in
@@ -183,7 +183,7 @@ module _ (owner : KeyName → ℕ) (G : KeyName → KeyName → Type 0) (one : (
     }
       where
         old : (p k : KeyName) (m : ℕ) → ((owner p ≡ i) × (m ≡ n) → ⊥) → Caught owner G M free_hand V (owner p) m k →
-            Caught owner G M (closing i n) U (owner p) m k
+            Caught owner G M (closing_job i n) U (owner p) m k
         old p k m other (inl (at, marked)) = inl (at, marked-on k m marked (λ (here, job'). other (sym at ∙ here, job')))
         old p k m other (inr (inl more)) = let same = S.asked_on k (owner p) m in inr (inl (omega (arith, more, same)))
         old p k m other (inr (inr care)) = absurd care

@@ -41,7 +41,7 @@ use Rattle.sem_safety.proofs.Parents.{local_step-below}
 use Rattle.sem_safety.proofs.Lives.{all_held, at_grant}
 use Rattle.sem_safety.proofs.LiveWorlds.{at_world, after-lives}
 use Rattle.sem_revoke.specs.Views.{Marked}
-use Rattle.sem_revoke.specs.Scales.{Scale, sum_from, of_messages, of_side, of_inbox, of_links, of_world, asking, naming, noticing, straying, counting}
+use Rattle.sem_revoke.specs.Scales.{Scale, sum_from, of_messages, of_side, of_inbox, of_links, of_world, requesting, naming, noticing, straying, counting}
 use Rattle.sem_revoke.proofs.Scaling.{from-replicate}
 use Rattle.sem_revoke.proofs.Viewing.{on_its_way}
 use Rattle.sem_revoke.proofs.Closing.{from-none}
@@ -206,12 +206,12 @@ module _ (T : Setup) where
   start-holds = record {
     linked = λ p k granted alive. absurd (Contains-nil (p, k) granted);
     caught = λ p k d n held marked child alive. absurd (no-mark p n (d, held, marked));
-    asking = λ k a b more. let none = world-none (asking k a b) in absurd (omega (arith, none, more));
+    asking = λ k a b more. let none = world-none (requesting k a b) in absurd (omega (arith, none, more));
     marks = λ k n marked. absurd (no-mark k n marked);
     roots = λ a n x open_. absurd (no-job a n x open_);
     alone = λ a n x open_. absurd (no-job a n x open_);
     counted = λ a b. let none = world-none (naming a b) in let zero' = world-none (counting a b) in omega (arith, none, zero');
-    single = (λ k a b. let none = world-none (asking k a b) in omega (arith, none), λ k a b care. absurd care);
+    single = (λ k a b. let none = world-none (requesting k a b) in omega (arith, none), λ k a b care. absurd care);
     noticed = λ k more. let none = world-none (noticing k) in absurd (omega (arith, none, more));
     placed = world-none (straying (owner_of T));
   }

@@ -37,7 +37,7 @@ use Rattle.sem_machine.proofs.Weighing.{weigh-map}
 use Rattle.sem_safety.proofs.Lives.{at_parked, lives-parked, lives-unparked, lives-inbox}
 use Rattle.sem_safety.proofs.JobIds.{HasIds, ids}
 use Rattle.sem_revoke.specs.Views.{Hand, IsCaused, free_hand, token, request}
-use Rattle.sem_revoke.specs.Scales.{Scale, of_side, of_inbox, one_if, names, asking, naming, counting, noticing, straying, asking_message, token_message}
+use Rattle.sem_revoke.specs.Scales.{Scale, of_side, of_inbox, one_if, names, requesting, naming, counting, noticing, straying, requesting_message, token_message}
 use Rattle.sem_revoke.proofs.Keeping.{holds-same, same-mark, cases_Option, not-gone}
 use Rattle.sem_revoke.proofs.Scaling.{side-changed, side-inbox}
 use Rattle.sem_revoke.proofs.Viewing.{on_its_way, Scene, one-more, one-true, one-false, owner, view, IsAlive, IsGone, IsMarked, IsUnder, Row, hold-here}
@@ -88,7 +88,7 @@ module _ (C : Scene) where
       subst (StaysSo C x) (same_Some (g x) y some) (so x),
     )
 
-    asked-same : (k : KeyName) (a b : ℕ) → of_side (asking k a b) i t ≡ of_side (asking k a b) i s
+    asked-same : (k : KeyName) (a b : ℕ) → of_side (requesting k a b) i t ≡ of_side (requesting k a b) i s
     asked-same k a b = let sum = weigh-map (λ (x : JobRow). one_if (key_eq x.root k && names i x.up a b)) g
         (λ x. ap (λ q. one_if (key_eq q k && names i (g x).up a b)) (same x).1 ∙ ap (λ u. one_if (key_eq x.root k && names i u a b)) (ups x)) s.jobs in
         omega (arith, sum)
@@ -255,16 +255,16 @@ module _ (C : Scene) where
             -- no job waits for it yet
             alone : (a b : ℕ) → names i x.up a b ≡ false
             alone a b = false_from_ne_true (names i x.up a b) (λ named.
-                let weighs = job-weighs C (asking k a b) s m x open_ in
+                let weighs = job-weighs C (requesting k a b) s m x open_ in
                 let one = one-true (key_eq x.root k && names i x.up a b) (and_from (key_eq x.root k) (names i x.up a b) (key_eq-from x.root k root) named) in
                 let asked : 1 ≤ (view C s).asked k a b = omega (arith, weighs, one) in
                 let mark = same-mark (owner C) C.parent C.one_parent C.made (view C s) k a b from j (R.revokes.asking k a b asked) under in
                 let none = R.revokes.single.1 k a b (mark.0, mark.1, refl) in
                 omega (arith, asked, none))
 
-            asks : (q : KeyName) (a b : ℕ) → of_side (asking q a b) i t + one_if (key_eq x.root q && names i x.up a b)
-                ≡ of_side (asking q a b) i s + one_if (key_eq x.root q && ((from == a) && (j == b)))
-            asks q a b = side-changed (asking q a b) i s m f x R.ids.rise open_
+            asks : (q : KeyName) (a b : ℕ) → of_side (requesting q a b) i t + one_if (key_eq x.root q && names i x.up a b)
+                ≡ of_side (requesting q a b) i s + one_if (key_eq x.root q && ((from == a) && (j == b)))
+            asks q a b = side-changed (requesting q a b) i s m f x R.ids.rise open_
 
             once : (q : KeyName) (a b : ℕ) → (view C t).asked q a b ≤ 1
             once q a b =
@@ -290,7 +290,7 @@ module _ (C : Scene) where
                 let one = one-true (key_eq x.root k && ((from == from) && (j == j)))
                 (and_from (key_eq x.root k) ((from == from) && (j == j)) (key_eq-from x.root k root)
                 (and_from (from == from) (j == j) (eq-eqb from from refl) (eq-eqb j j refl))) in
-                let weighs = job-weighs C (asking k from j) s m x open_ in
+                let weighs = job-weighs C (requesting k from j) s m x open_ in
                 omega (arith, sum, one, weighs)
 
             still : (q : KeyName) (a b : ℕ) → IsUnder C s q a b → (1 ≤ (view C s).asked q a b) ⊎ ((a ≡ from) × (b ≡ j) × (q ≡ k)) → 1 ≤ (view C t).asked q a b
@@ -460,9 +460,9 @@ module _ (C : Scene) where
 
   -- A message is taken out of the inbox.
   pub row-taken : (h : Hand) (s : Side) (from : ℕ) (m : Message) → s.inbox ≡ Some (from, m)
-      → ((k : KeyName) (a b : ℕ) → 1 ≤ asking_message k a b from i m → h.cares a b k)
+      → ((k : KeyName) (a b : ℕ) → 1 ≤ requesting_message k a b from i m → h.cares a b k)
       → ((a b : ℕ) → h.owed a b ≡ token_message a b from i m)
-      → ((k : KeyName) (a b : ℕ) → h.cares a b k → 1 ≤ asking_message k a b from i m)
+      → ((k : KeyName) (a b : ℕ) → h.cares a b k → 1 ≤ requesting_message k a b from i m)
       → Row C free_hand s → Row (record C { before = with_inbox None s }) h (with_inbox None s)
   row-taken h s from m full cares owed cared R =
       step_from D free_hand h s t
@@ -470,18 +470,18 @@ module _ (C : Scene) where
       omega (arith, sum)))
       (no-roots D s t refl) R.rises (record { rise = R.ids.rise; drawn = R.ids.drawn }) R.homes here
       (λ k a b alive under before. inr (elim before [
-        | inl more ↦ elim (cases_eq (asking_message k a b from i m) 0) [
-          | inl none ↦ let sum = out (asking k a b) in inl (omega (arith, sum, none, more))
+        | inl more ↦ elim (cases_eq (requesting_message k a b from i m) 0) [
+          | inl none ↦ let sum = out (requesting k a b) in inl (omega (arith, sum, none, more))
           | inr some ↦ inr (cares k a b (omega (arith, some)))
         ]
         | inr care ↦ absurd care
       ]))
-      (λ k a b more. let sum = out (asking k a b) in inl (omega (arith, sum, more)))
+      (λ k a b more. let sum = out (requesting k a b) in inl (omega (arith, sum, more)))
       (λ a n loose. absurd loose)
       (λ a b. let sum = out (naming a b) in let count = out (counting a b) in let few = owed a b in let before = R.revokes.counted a b in
       omega (arith, sum, count, few, before)) (
-        λ k a b. let sum = out (asking k a b) in let most = R.revokes.single.0 k a b in omega (arith, sum, most),
-        λ k a b care. let sum = out (asking k a b) in
+        λ k a b. let sum = out (requesting k a b) in let most = R.revokes.single.0 k a b in omega (arith, sum, most),
+        λ k a b care. let sum = out (requesting k a b) in
             let most = R.revokes.single.0 k a b in let some = cared k a b care in omega (arith, sum, most, some),
       )
       (λ k more. let sum = out (noticing k) in inl (omega (arith, sum, more)))

@@ -21,7 +21,7 @@ use Rattle.sem_key.proofs.KeyTests.{key_eq-same, key_eq-true, key_eq-from}
 use Rattle.sem_safety.proofs.Lives.{lives-send}
 use Rattle.sem_safety.proofs.JobIds.{HasIds, ids}
 use Rattle.sem_revoke.specs.Views.{free_hand, children, Caught}
-use Rattle.sem_revoke.specs.Scales.{of_side, one_if, names, asking, naming, counting, noticing, straying}
+use Rattle.sem_revoke.specs.Scales.{of_side, one_if, names, requesting, naming, counting, noticing, straying}
 use Rattle.sem_revoke.proofs.Keeping.{holds-same, same-mark}
 use Rattle.sem_revoke.proofs.Scaling.{side-send, side-changed}
 use Rattle.sem_revoke.proofs.Viewing.{on_its_way, Scene, one-true, one-false, owner, view, IsAlive, IsMarked, IsUnder, Row, hold-here, job-here, under-lost}
@@ -85,10 +85,10 @@ module _ (C : Scene) where
     abbrev requested : Side
     requested = count_raised j asked_for
 
-    requested-asks : (q : KeyName) (a b : ℕ) → of_side (asking q a b) i requested ≡ of_side (asking q a b) i s + one_if (key_eq k q && ((i == a) && (j == b)))
+    requested-asks : (q : KeyName) (a b : ℕ) → of_side (requesting q a b) i requested ≡ of_side (requesting q a b) i s + one_if (key_eq k q && ((i == a) && (j == b)))
     requested-asks q a b =
-        let sent = side-send (asking q a b) i s (owner C k) (RevokeReq k j) in
-        let raised = side-changed (asking q a b) i asked_for j raise x R.ids.rise open_ in
+        let sent = side-send (requesting q a b) i s (owner C k) (RevokeReq k j) in
+        let raised = side-changed (requesting q a b) i asked_for j raise x R.ids.rise open_ in
         omega (arith, sent, raised)
 
     requested-tokens : (a b : ℕ) → of_side (naming a b) i requested ≡ of_side (naming a b) i s + one_if ((i == a) && (j == b))
@@ -189,11 +189,11 @@ module _ (C : Scene) where
     waited-open : job waited j ≡ Some y
     waited-open = changed-other s m wait j (λ x. (refl, refl)) apart ∙ open_
 
-    adopting-asks : (q : KeyName) (a b : ℕ) → of_side (asking q a b) i adopting + one_if (key_eq x.root q && names i x.up a b)
-        ≡ of_side (asking q a b) i s + one_if (key_eq x.root q && ((i == a) && (j == b)))
+    adopting-asks : (q : KeyName) (a b : ℕ) → of_side (requesting q a b) i adopting + one_if (key_eq x.root q && names i x.up a b)
+        ≡ of_side (requesting q a b) i s + one_if (key_eq x.root q && ((i == a) && (j == b)))
     adopting-asks q a b =
-        let first = side-changed (asking q a b) i s m wait x R.ids.rise other in
-        let raised = side-changed (asking q a b) i waited j raise y waited-ids.rise waited-open in
+        let first = side-changed (requesting q a b) i s m wait x R.ids.rise other in
+        let raised = side-changed (requesting q a b) i waited j raise y waited-ids.rise waited-open in
         omega (arith, first, raised)
 
     adopting-tokens : (a b : ℕ) → of_side (naming a b) i adopting + one_if (names i x.up a b) ≡ of_side (naming a b) i s + one_if ((i == a) && (j == b))
@@ -239,7 +239,7 @@ module _ (C : Scene) where
         -- no job waits for it yet
         alone : (a b : ℕ) → names i x.up a b ≡ false
         alone a b = false_from_ne_true (names i x.up a b) (λ named.
-            let weighs = job-weighs C (asking k a b) s m x other in
+            let weighs = job-weighs C (requesting k a b) s m x other in
             let one = one-true (key_eq x.root k && names i x.up a b) (and_from (key_eq x.root k) (names i x.up a b) (key_eq-from x.root k root) named) in
             let asked : 1 ≤ (view C s).asked k a b = omega (arith, weighs, one) in
             let mark = same-mark (owner C) C.parent C.one_parent C.made (view C s) k a b i j (R.revokes.asking k a b asked) under in
@@ -283,7 +283,7 @@ module _ (C : Scene) where
             let sum = adopting-asks q i j in
             let one = one-true (key_eq x.root q && ((i == i) && (j == j)))
             (and_from (key_eq x.root q) ((i == i) && (j == j)) same (from-both i j i j refl refl)) in
-            let weighs = job-weighs C (asking q i j) s m x other in
+            let weighs = job-weighs C (requesting q i j) s m x other in
             omega (arith, sum, one, weighs)
 
         caught : (q : KeyName) (a b : ℕ) → IsUnder C s q a b → (1 ≤ (view C s).asked q a b) ⊎ ((a ≡ i) × (b ≡ j) × (has_key (k ∷ ks) q ≡ true)) →

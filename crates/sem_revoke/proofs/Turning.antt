@@ -45,8 +45,8 @@ use Rattle.sem_machine.proofs.Weighing.{of_option, weigh-drop}
 use Rattle.sem_safety.proofs.Lives.{all_held, at_parked, at_side, at_message, at_inbox, at_grant, lives-inbox, lives-unparked}
 use Rattle.sem_safety.proofs.LiveWorlds.{at_world}
 use Rattle.sem_revoke.specs.Views.{free_hand, token, request, IsCaused}
-use Rattle.sem_revoke.specs.Scales.{Scale, sum_from, of_messages, of_side, of_inbox, of_world, one_if, asking, naming, counting, noticing, straying}
-use Rattle.sem_revoke.specs.Scales.{asking_message, notice_message, token_message}
+use Rattle.sem_revoke.specs.Scales.{Scale, sum_from, of_messages, of_side, of_inbox, of_world, one_if, requesting, naming, counting, noticing, straying}
+use Rattle.sem_revoke.specs.Scales.{requesting_message, notice_message, token_message}
 use Rattle.sem_revoke.proofs.Keeping.{cases_Option}
 use Rattle.sem_revoke.proofs.Scaling.{world-side, world-link, side-inbox, side-sent}
 use Rattle.sem_revoke.proofs.Viewing.{on_its_way, Scene, one-more, one-true, owner, view, IsGone, IsUnder, Row, hold-here, rows-changed, pendings-row, row-sent}
@@ -99,7 +99,7 @@ module _ (T : Setup) (gs : List (KeyName × KeyName)) (W : World) (R : IsReady T
         (owner_of T k ≡ j) × ((p : KeyName) × ◌≡◌ {A = Option (KeyName × KeyName)} o (Some (p, k))))
     -- and where a key is granted nothing is asked for
     pub quiet : (p k : KeyName) → ◌≡◌ {A = Option (KeyName × KeyName)} o (Some (p, k)) → (q : KeyName) (a c : ℕ) →
-        sum_from (of_messages (asking q a c) i) 0 t.outs ≡ sum_from (of_messages (asking q a c) i) 0 b.outs
+        sum_from (of_messages (requesting q a c) i) 0 t.outs ≡ sum_from (of_messages (requesting q a c) i) 0 b.outs
     -- and no job changes
     pub steady : (p k : KeyName) → ◌≡◌ {A = Option (KeyName × KeyName)} o (Some (p, k)) → t.jobs ≡ b.jobs
     -- what was held is held, or lost, and each job has a cause
@@ -155,7 +155,7 @@ module _ (T : Setup) (gs : List (KeyName × KeyName)) (W : World) (R : IsReady T
     record {
       inbox = G.inbox;
       sends = G.sends;
-      quiet = λ p k is q a c. G.outs (asking q a c) (of_asking q a c);
+      quiet = λ p k is q a c. G.outs (requesting q a c) (of_asking q a c);
       steady = λ p k is. G.jobs;
       lasts = λ k c held. let e = G.on k c held in inl (e.0, e.1);
       caused = λ n y open_. L.caused i n y (ap (λ xs. job_of xs n) (sym G.jobs) ∙ open_);
@@ -285,7 +285,7 @@ module _ (T : Setup) (gs : List (KeyName × KeyName)) (W : World) (R : IsReady T
       record {
         inbox = G.inbox;
         sends = G.sends;
-        quiet = λ p k is q a c. G.outs (asking q a c) (of_asking q a c);
+        quiet = λ p k is q a c. G.outs (requesting q a c) (of_asking q a c);
         steady = λ p k is. G.jobs;
         lasts = λ k c held. let e = G.on k c held in inl (e.0, e.1);
         caused = λ n y open_. L.caused i n y (ap (λ xs. job_of xs n) (sym G.jobs) ∙ open_);
@@ -293,7 +293,7 @@ module _ (T : Setup) (gs : List (KeyName × KeyName)) (W : World) (R : IsReady T
     )
 
     -- the message is taken out, and nothing comes into the hand
-    taken : ((k : KeyName) (a b : ℕ) → asking_message k a b from i m ≡ 0) → ((a b : ℕ) → token_message a b from i m ≡ 0) → Row there free_hand base
+    taken : ((k : KeyName) (a b : ℕ) → requesting_message k a b from i m ≡ 0) → ((a b : ℕ) → token_message a b from i m ≡ 0) → Row there free_hand base
     taken quiet tokenless = row-taken here free_hand now from m full (λ k a b more'. let none = quiet k a b in
         omega (arith, none, more')) (λ a b. sym (tokenless a b)) (λ k a b care. absurd care) in_row
 
@@ -322,7 +322,7 @@ module _ (T : Setup) (gs : List (KeyName × KeyName)) (W : World) (R : IsReady T
           in_row.fit.made k (inr (omega (arith, sum, one))),
         )
 
-    orphaned : (parent key : KeyName) → at_message key m ≡ 1 → ((k : KeyName) (a b : ℕ) → asking_message k a b from i m ≡ 0) → (t : Side) →
+    orphaned : (parent key : KeyName) → at_message key m ≡ 1 → ((k : KeyName) (a b : ℕ) → requesting_message k a b from i m ≡ 0) → (t : Side) →
         Row there free_hand t → ((IsGone there base key × Made T gs key) → IsGone there t key × Made T gs key) →
         Kept (send (owner here parent) (Orphan parent key) t)
     orphaned parent key one quiet t K moves = by-row (send (owner here parent) (Orphan parent key) t)
@@ -364,7 +364,7 @@ module _ (T : Setup) (gs : List (KeyName × KeyName)) (W : World) (R : IsReady T
       let parts = and_parts (owner here k == i) (not (owner here k == from)) test in
       let at : owner here k ≡ i = eqb-true (owner here k) i parts.0 in
       let away : from ≢ i = λ same. eqb-false (owner here k) from (not-true (owner here k == from) parts.1) (at ∙ sym same) in
-      let asks = weighs from (RevokeReq k j) full (asking k from j) in
+      let asks = weighs from (RevokeReq k j) full (requesting k from j) in
       let one = one-true (key_eq k k && ((from == from) && (j == j)))
       (and_from (key_eq k k) ((from == from) && (j == j)) (key_eq-same k) (and_from (from == from) (j == j) (eq-eqb from from refl) (eq-eqb j j refl))) in
       let under = in_row.revokes.asking k from j (omega (arith, asks, one)) in
@@ -589,7 +589,7 @@ module _ (T : Setup) (gs : List (KeyName × KeyName)) (W : World) (R : IsReady T
         hold = λ k. ap (λ (cs : List Capability). cap_of cs k) (side-same (owner_of T k)).0;
         gifts = gifts;
         job = λ a n. ap (λ xs. job_of xs n) (side-same a).1;
-        asked = λ k a b. sums (asking k a b);
+        asked = λ k a b. sums (requesting k a b);
         tokens = λ a b. sums (naming a b);
         count = λ a b. sums (counting a b);
         notices = λ k. sums (noticing k);

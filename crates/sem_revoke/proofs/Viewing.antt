@@ -28,7 +28,7 @@ use Rattle.sem_safety.proofs.Lives.{at_message, at_parked, at_side, lives-send}
 use Rattle.sem_safety.proofs.LiveWorlds.{at_world}
 use Rattle.sem_safety.proofs.JobIds.{HasIds}
 use Rattle.sem_revoke.specs.Views.{View, Hand, IsAlone, IsCaused, Alive, Gone, Marked, Under, Caught, IsFit, Revokes, IsSingle}
-use Rattle.sem_revoke.specs.Scales.{Scale, of_side, of_world, one_if, asking, naming, counting, noticing, straying, asking_message, token_message}
+use Rattle.sem_revoke.specs.Scales.{Scale, of_side, of_world, one_if, requesting, naming, counting, noticing, straying, requesting_message, token_message}
 use Rattle.sem_revoke.specs.Scales.{notice_message, stray_message}
 use Rattle.sem_revoke.proofs.Keeping.{HoldsOn, holds-same, fit-on, keep}
 use Rattle.sem_revoke.proofs.Scaling.{side-send}
@@ -91,7 +91,7 @@ module _ (C : Scene) where
     hold = λ k. if owner k == C.kernel then cap s k else cap (side C.world (owner k)) k;
     gifts = λ k. at_world k on_its_way elsewhere + at_side k on_its_way s;
     job = λ a n. if a == C.kernel then job s n else job (side C.world a) n;
-    asked = λ k a b. of_world (asking k a b) elsewhere + of_side (asking k a b) C.kernel s;
+    asked = λ k a b. of_world (requesting k a b) elsewhere + of_side (requesting k a b) C.kernel s;
     tokens = λ a b. of_world (naming a b) elsewhere + of_side (naming a b) C.kernel s;
     count = λ a b. of_world (counting a b) elsewhere + of_side (counting a b) C.kernel s;
     notices = λ k. of_world (noticing k) elsewhere + of_side (noticing k) C.kernel s;
@@ -345,7 +345,7 @@ module _ (C : Scene) where
 
   -- A message is sent that asks for nothing and gives nothing.
   pub row-sent : (h h' : Hand) (s : Side) (j : ℕ) (m : Message)
-      → ((k : KeyName) (a b : ℕ) → asking_message k a b C.kernel j m ≡ 0)
+      → ((k : KeyName) (a b : ℕ) → requesting_message k a b C.kernel j m ≡ 0)
       → ((k : KeyName) → at_message k m ≡ 0)
       → stray_message owner C.kernel j m ≡ 0
       → ((a b : ℕ) → token_message a b C.kernel j m + h'.owed a b ≡ h.owed a b)
@@ -358,8 +358,8 @@ module _ (C : Scene) where
       let t : Side = send j m s in
       let H = holds-same owner C.parent C.one_parent C.made (view s) (view t) (λ k. refl) (λ k. let sum = lives-send k on_its_way s j m in let none = gives k in
       omega (arith, sum, none)) in
-      let asked : (k : KeyName) (a b : ℕ) → of_side (asking k a b) C.kernel t ≡ of_side (asking k a b) C.kernel s = λ k a b. let sum =
-      side-send (asking k a b) C.kernel s j m in let none = asks k a b in omega (arith, sum, none) in
+      let asked : (k : KeyName) (a b : ℕ) → of_side (requesting k a b) C.kernel t ≡ of_side (requesting k a b) C.kernel s = λ k a b. let sum =
+      side-send (requesting k a b) C.kernel s j m in let none = asks k a b in omega (arith, sum, none) in
       step h h' s t H (no-roots s t refl) R.rises (record { rise = R.ids.rise; drawn = R.ids.drawn }) R.homes (sent-more s j m gives R.sent)
       (λ k a b alive under before. inr (elim before [
         | inl more ↦ (let same = asked k a b in inl (omega (arith, more, same)))

@@ -20,7 +20,7 @@ use Rattle.sem_safety.proofs.Lives.{all_held, at_cap, at_side}
 use Rattle.sem_safety.proofs.LiveWorlds.{at_world, world-side}
 use Rattle.sem_safety.proofs.JobIds.{HasIds}
 use Rattle.sem_revoke.specs.Views.{View, free_hand, Alive, Gone, Marked, Under, Leads, IsFit, Revokes, IsCaused}
-use Rattle.sem_revoke.specs.Scales.{of_world, asking, naming, counting, noticing, straying}
+use Rattle.sem_revoke.specs.Scales.{of_world, requesting, naming, counting, noticing, straying}
 use Rattle.sem_revoke.proofs.Keeping.{HoldsOn, holds-same, fit-on, keep, cases_Option}
 use Rattle.sem_revoke.proofs.Scaling.{world-parts, world-whole}
 use Rattle.sem_revoke.proofs.Viewing.{on_its_way, Rises, Scene, owner, elsewhere, view, IsSent, Row}
@@ -31,7 +31,7 @@ whole T W = record {
   hold = λ k. cap (side W (owner_of T k)) k;
   gifts = λ k. at_world k on_its_way W;
   job = λ a n. job (side W a) n;
-  asked = λ k a b. of_world (asking k a b) W;
+  asked = λ k a b. of_world (requesting k a b) W;
   tokens = λ a b. of_world (naming a b) W;
   count = λ a b. of_world (counting a b) W;
   notices = λ k. of_world (noticing k) W;
@@ -98,7 +98,7 @@ module _ (C : Scene) where
       | inr away ↦ ap (λ (x : Side). job x n) (get_or-put_other no_side C.world.sides i a t away)
           ∙ sym (cond-false (a == i) (job t n) (job (side C.world a) n) (ne_eqb a i away))
     ];
-    asked = λ k a b. world-parts (asking k a b) C.world i t;
+    asked = λ k a b. world-parts (requesting k a b) C.world i t;
     tokens = λ a b. world-parts (naming a b) C.world i t;
     count = λ a b. world-parts (counting a b) C.world i t;
     notices = λ k. world-parts (noticing k) C.world i t;
@@ -120,7 +120,7 @@ module _ (C : Scene) where
       | inl here ↦ cond-true (a == i) (job (side C.world i) n) (job (side C.world a) n) (eq-eqb a i here) ∙ ap (λ b. job (side C.world b) n) (sym here)
       | inr away ↦ cond-false (a == i) (job (side C.world i) n) (job (side C.world a) n) (ne_eqb a i away)
     ];
-    asked = λ k a b. sym (world-whole (asking k a b) C.world i);
+    asked = λ k a b. sym (world-whole (requesting k a b) C.world i);
     tokens = λ a b. sym (world-whole (naming a b) C.world i);
     count = λ a b. sym (world-whole (counting a b) C.world i);
     notices = λ k. sym (world-whole (noticing k) C.world i);

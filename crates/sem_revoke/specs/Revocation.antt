@@ -13,7 +13,7 @@ use Rattle.sem_machine.specs.Living.{way}
 use Rattle.sem_machine.specs.Safety.{IsInUse}
 use Rattle.sem_revoke.specs.Resting.{IsCutOff, Names, HasMarkedParent}
 use Rattle.sem_safety.specs.History.{history}
-use Rattle.sem_revoke.specs.Scales.{of_world, asking, naming, counting}
+use Rattle.sem_revoke.specs.Scales.{of_world, requesting, naming, counting}
 
 -- the kernel that owns the key holds it
 abbrev pub IsHeldAtHome : Setup → World → KeyName → Type 0
@@ -66,7 +66,7 @@ marks_spread T J =
     (p k : KeyName) (d : Capability) (n : ℕ) → HoldsCap (world_after T J) (owner_of T p) p d → d.mark ≡ Some n →
     Contains d.children k → IsLive (world_after T J) k
     → ((owner_of T k ≡ owner_of T p) × IsMarkedAtHome T (world_after T J) k n)
-    ⊎ (1 ≤ of_world (asking k (owner_of T p) n) (world_after T J))
+    ⊎ (1 ≤ of_world (requesting k (owner_of T p) n) (world_after T J))
 
 -- a mark is of an open job: the key is its root, or the parent has the same owner and the same mark
 abbrev pub marks_of_jobs : Setup → List Entry → Type 0

@@ -55,8 +55,8 @@ children i n ks = record {
 }
 
 -- job n of kernel i, which has swept all that it marked
-abbrev pub closing : ℕ → ℕ → Hand
-closing i n = record { cares = λ c d k. ⊥; owed = λ c d. 0; loose = λ c d. (c ≡ i) × (d ≡ n) }
+abbrev pub closing_job : ℕ → ℕ → Hand
+closing_job i n = record { cares = λ c d k. ⊥; owed = λ c d. 0; loose = λ c d. (c ≡ i) × (d ≡ n) }
 
 -- no other job waits for a job that keeps its root
 abbrev pub IsAlone : JobRow → Type 0

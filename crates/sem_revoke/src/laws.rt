@@ -1,9 +1,8 @@
 //! The laws of safety and of idle worlds, as contracts of functions that do nothing.
 
-ghost use Rattle.std.specs.Prelude.{◌≡◌, List, [], ◌∷◌, Contains};
-ghost use Rattle.sem_msg.specs.declared.entry.Entry.{Entry};
-ghost use Rattle.sem_msg.specs.Setup.{Setup, IsSetup};
-ghost use Rattle.sem_machine.specs.Schedules.{IsSchedule, world_after};
+ghost use Rattle.std.specs.Prelude.{◌≡◌, [], ◌∷◌, Contains};
+ghost use Rattle.sem_msg.specs.Setup.{IsSetup};
+ghost use Rattle.sem_machine.specs.Schedules.{Always, IsSchedule, world_after};
 ghost use Rattle.sem_machine.specs.Journals.{line, answered, forest};
 ghost use Rattle.sem_machine.specs.Living.{IsOnItsWay, Binds, IsIdle};
 ghost use Rattle.sem_machine.specs.Safety.{IsInUse, IsSafe};
@@ -14,7 +13,7 @@ ghost use Rattle.sem_revoke.specs.Sample.{to_bind, to_revoke, to_clear, sample_j
 /// Every schedule of every setup is safe: the six sentences hold after it. Every prefix of a
 /// schedule is a schedule, so it is safe too.
 pub fn safe()
-    ensures safe { (T : Setup) → IsSetup T → (J : List Entry) → IsSchedule T J → IsSafe T J }
+    ensures safe { Always IsSafe }
 {}
 
 /// `safe` is not empty: a setup of two kernels has a schedule, with these prefixes. First a part of
@@ -43,6 +42,5 @@ pub fn safe_speaks_of_schedules()
 /// nothing is marked, no delegation is pending, each child link leads to a held capability that has
 /// the holder of the link as its parent, and the held keys are the forest.
 pub fn idle()
-    ensures rest { (T : Setup) → IsSetup T → (J : List Entry) → IsSchedule T J →
-        IsIdle (world_after T J) → IsAtRest T J (world_after T J) }
+    ensures rest { Always (λ T J. IsIdle (world_after T J) → IsAtRest T J (world_after T J)) }
 {}

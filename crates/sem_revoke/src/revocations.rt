@@ -1,9 +1,7 @@
-ghost use Rattle.std.specs.Prelude.{◌≡◌, ℕ, ◌+◌, true, List, Some, None};
+ghost use Rattle.std.specs.Prelude.{◌≡◌, ℕ, ◌+◌, true, Some, None};
 ghost use Rattle.sem_key.specs.KeyName.{KeyName};
 ghost use Rattle.sem_key.specs.declared.object.Object.{Object};
-ghost use Rattle.sem_msg.specs.declared.entry.Entry.{Entry};
-ghost use Rattle.sem_msg.specs.Setup.{Setup, IsSetup};
-ghost use Rattle.sem_machine.specs.Schedules.{IsSchedule, world_after};
+ghost use Rattle.sem_machine.specs.Schedules.{Always, world_after};
 ghost use Rattle.sem_machine.specs.Living.{IsLive, HasObject, reply_count};
 ghost use Rattle.sem_machine.specs.Machine.{side};
 ghost use Rattle.sem_machine.specs.Sides.{row, parked, is_alive};
@@ -28,18 +26,13 @@ ghost use Rattle.sem_machine.specs.Safety.{narrowing, nothing_lost, revoked_is_g
 /// that a kernel asks another to revoke is below a mark of the asking job, and a capability travels
 /// before the request to revoke it.
 pub fn revocation_follows_links()
-    ensures homes { (T : Setup) → IsSetup T → (J : List Entry) → IsSchedule T J → held_at_home T J }
-    ensures linked { (T : Setup) → IsSetup T → (J : List Entry) → IsSchedule T J → linked T J }
-    ensures ancestors { (T : Setup) → IsSetup T → (J : List Entry) → IsSchedule T J →
-        ancestors_held T J }
-    ensures orphans { (T : Setup) → IsSetup T → (J : List Entry) → IsSchedule T J →
-        orphans_dead T J }
-    ensures unlinked { (T : Setup) → IsSetup T → (J : List Entry) → IsSchedule T J →
-        unlinked_dead T J }
-    ensures asked { (T : Setup) → IsSetup T → (J : List Entry) → IsSchedule T J →
-        asked_below_marks T J }
-    ensures first { (T : Setup) → IsSetup T → (J : List Entry) → IsSchedule T J →
-        capability_first T J }
+    ensures homes { Always held_at_home }
+    ensures linked { Always linked }
+    ensures ancestors { Always ancestors_held }
+    ensures orphans { Always orphans_dead }
+    ensures unlinked { Always unlinked_dead }
+    ensures asked { Always asked_below_marks }
+    ensures first { Always capability_first }
 {}
 
 /// After every schedule of every setup marks spread: a live child of a marked capability is marked
@@ -49,19 +42,13 @@ pub fn revocation_follows_links()
 /// that the other has marked. Every key that a job has marked, other than its root, is a child of a
 /// capability that it has marked.
 pub fn jobs_answer_for_marks()
-    ensures spread { (T : Setup) → IsSetup T → (J : List Entry) → IsSchedule T J →
-        marks_spread T J }
-    ensures marks { (T : Setup) → IsSetup T → (J : List Entry) → IsSchedule T J →
-        marks_of_jobs T J }
-    ensures roots { (T : Setup) → IsSetup T → (J : List Entry) → IsSchedule T J → roots_marked T J }
-    ensures keepers { (T : Setup) → IsSetup T → (J : List Entry) → IsSchedule T J →
-        keepers_alone T J }
-    ensures counted { (T : Setup) → IsSetup T → (J : List Entry) → IsSchedule T J →
-        tokens_counted T J }
-    ensures waited { (T : Setup) → IsSetup T → (J : List Entry) → IsSchedule T J →
-        waited_below_marks T J }
-    ensures below { (T : Setup) → IsSetup T → (J : List Entry) → IsSchedule T J →
-        marked_below_roots T J }
+    ensures spread { Always marks_spread }
+    ensures marks { Always marks_of_jobs }
+    ensures roots { Always roots_marked }
+    ensures keepers { Always keepers_alone }
+    ensures counted { Always tokens_counted }
+    ensures waited { Always waited_below_marks }
+    ensures below { Always marked_below_roots }
 {}
 
 /// After every schedule of every setup a revoke or a clear without an answer waits for the job that
@@ -69,25 +56,22 @@ pub fn jobs_answer_for_marks()
 /// off. Once it may succeed, what it cuts off is dead. A root that is kept belongs to a VPE that
 /// waits.
 pub fn revokers_wait_for_what_they_revoke()
-    ensures waiting { (T : Setup) → IsSetup T → (J : List Entry) → IsSchedule T J →
-        revokers_wait T J }
-    ensures keepers { (T : Setup) → IsSetup T → (J : List Entry) → IsSchedule T J →
-        keepers_waited_for T J }
+    ensures waiting { Always revokers_wait }
+    ensures keepers { Always keepers_waited_for }
 {}
 
 /// Revoked is gone: after every schedule of every setup no key in use has an ancestor that was
 /// revoked and answered, or that an answered clear cut off.
 pub fn revoked_keys_are_gone()
-    ensures gone { (T : Setup) → IsSetup T → (J : List Entry) → IsSchedule T J →
-        revoked_is_gone T J }
+    ensures gone { Always revoked_is_gone }
 {}
 
 /// After every schedule of every setup a live key has an object. A live key that was granted grants
 /// no more than its parent, and the parent is held.
 pub fn live_keys_narrow_their_parents()
-    ensures object { (T : Setup) → IsSetup T → (J : List Entry) → IsSchedule T J → (k : KeyName) →
-        IsLive (world_after T J) k → (object : Object) × HasObject (world_after T J) k object }
-    ensures narrowed { (T : Setup) → IsSetup T → (J : List Entry) → IsSchedule T J → narrowing T J }
+    ensures object { Always (λ T J. (k : KeyName) → IsLive (world_after T J) k →
+        (object : Object) × HasObject (world_after T J) k object) }
+    ensures narrowed { Always narrowing }
 {}
 
 /// After every schedule of every setup: a key that a kernel once held is still held or is doomed,
@@ -98,61 +82,51 @@ pub fn live_keys_narrow_their_parents()
 /// is. A granted key is live at that moment. So roots in the forest are live, and so is every key
 /// of the forest that was granted within one kernel.
 pub fn what_is_lost_is_doomed()
-    ensures lasts { (T : Setup) → IsSetup T → (J : List Entry) → IsSchedule T J →
-        held_unless_doomed T J }
-    ensures ready { (T : Setup) → IsSetup T → (J : List Entry) → IsSchedule T J →
-        ready_unless_doomed T J }
-    ensures given { (T : Setup) → IsSetup T → (J : List Entry) → IsSchedule T J →
-        given_unless_doomed T J }
-    ensures granted { (T : Setup) → IsSetup T → (J : List Entry) → IsSchedule T J →
-        granted_unless_doomed T J }
-    ensures marks { (T : Setup) → IsSetup T → (J : List Entry) → IsSchedule T J → marks_doom T J }
-    ensures requests { (T : Setup) → IsSetup T → (J : List Entry) → IsSchedule T J →
-        requests_doom T J }
-    ensures spared { (T : Setup) → IsSetup T → (J : List Entry) → IsSchedule T J →
-        forest_spared T J }
-    ensures born { (T : Setup) → IsSetup T → (J : List Entry) → IsSchedule T J → born_live T J }
-    ensures roots { (T : Setup) → IsSetup T → (J : List Entry) → IsSchedule T J → roots_last T J }
-    ensures near { (T : Setup) → IsSetup T → (J : List Entry) → IsSchedule T J →
-        near_keys_last T J }
+    ensures lasts { Always held_unless_doomed }
+    ensures ready { Always ready_unless_doomed }
+    ensures given { Always given_unless_doomed }
+    ensures granted { Always granted_unless_doomed }
+    ensures marks { Always marks_doom }
+    ensures requests { Always requests_doom }
+    ensures spared { Always forest_spared }
+    ensures born { Always born_live }
+    ensures roots { Always roots_last }
+    ensures near { Always near_keys_last }
 {}
 
 /// After every schedule of every setup: if an ask of an obtain stands in a queue or is on its way,
 /// its VPE waits for the answer to exactly that one, or is dead. A message in flight stays so until
 /// it is handled. A declared VPE that is dead has ended.
 pub fn who_asks_waits()
-    ensures asks { (T : Setup) → IsSetup T → (J : List Entry) → IsSchedule T J → asks_awaited T J }
-    ensures requests { (T : Setup) → IsSetup T → (J : List Entry) → IsSchedule T J →
-        requests_awaited T J }
-    ensures flights { (T : Setup) → IsSetup T → (J : List Entry) → IsSchedule T J →
-        flights_go_on T J }
-    ensures dead { (T : Setup) → IsSetup T → (J : List Entry) → IsSchedule T J →
-        dead_have_ended T J }
+    ensures asks { Always asks_awaited }
+    ensures requests { Always requests_awaited }
+    ensures flights { Always flights_go_on }
+    ensures dead { Always dead_have_ended }
 {}
 
 /// After every schedule of every setup a delegation to another kernel has at most one of these: a
 /// `DelegatePrepared` of it in flight, an `Ack` of it in flight, and a call that is ready to grant
 /// it. While it has one, the kernel of the child has the delegation pending.
 pub fn delegations_have_one_token()
-    ensures one { (T : Setup) → IsSetup T → (J : List Entry) → IsSchedule T J → one_token_each T J }
-    ensures pends { (T : Setup) → IsSetup T → (J : List Entry) → IsSchedule T J → tokens_pend T J }
+    ensures one { Always one_token_each }
+    ensures pends { Always tokens_pend }
 {}
 
 /// Nothing is lost: after every schedule of every setup each key of the forest is live. These are
 /// the made keys with no ancestor that was cut off or belongs to a VPE that has ended.
 pub fn nothing_is_lost()
-    ensures kept { (T : Setup) → IsSetup T → (J : List Entry) → IsSchedule T J → nothing_lost T J }
+    ensures kept { Always nothing_lost }
 {}
 
 /// A VPE that is alive after a schedule of any setup has as many replies as it made calls, or one
 /// less while a call of it is parked.
 pub fn living_vpes_have_their_replies()
-    ensures free { (T : Setup) → IsSetup T → (J : List Entry) → IsSchedule T J → (v : ℕ) →
+    ensures free { Always (λ T J. (v : ℕ) →
         is_alive (side (world_after T J) (kernel_of T v)) v ≡ true →
         parked (side (world_after T J) (kernel_of T v)) v ≡ None →
-        reply_count J v ≡ (row (side (world_after T J) (kernel_of T v)) v).next_call }
-    ensures parked { (T : Setup) → IsSetup T → (J : List Entry) → IsSchedule T J →
-        (v : ℕ) (p : Parked) → is_alive (side (world_after T J) (kernel_of T v)) v ≡ true →
+        reply_count J v ≡ (row (side (world_after T J) (kernel_of T v)) v).next_call) }
+    ensures parked { Always (λ T J. (v : ℕ) (p : Parked) →
+        is_alive (side (world_after T J) (kernel_of T v)) v ≡ true →
         parked (side (world_after T J) (kernel_of T v)) v ≡ Some p →
-        reply_count J v + 1 ≡ (row (side (world_after T J) (kernel_of T v)) v).next_call }
+        reply_count J v + 1 ≡ (row (side (world_after T J) (kernel_of T v)) v).next_call) }
 {}

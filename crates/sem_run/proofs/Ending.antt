@@ -22,7 +22,7 @@ use Rattle.sem_cli.specs.declared.statuses.Status.{Status}
 use Rattle.sem_cli.specs.declared.statuses.Status.TheVariants.{Done, Usage, TraceRefused, ReadFault, WriteFault, Memory, ReportRefused}
 use Rattle.sem_cli.specs.declared.forms.Command.TheVariants.{Run, Threads, Files, Soak}
 use Rattle.sem_run.specs.declared.response.Response.{Response}
-use Rattle.sem_run.specs.Inputs.{Given, Asks, AsksRun, IsUntouched, ReadsPart, ReadsTrace, IsRefused, AreRefused, IsQuietlyRead}
+use Rattle.sem_run.specs.Inputs.{Given, Asks, AsksRun, IsUntouched, ReadsFront, ReadsTrace, IsRefusedTrace, AreRefused, IsQuietlyRead}
 use Rattle.sem_run.specs.Inputs.RunsSetup.{is_read, is_compiled, is_generated}
 use Rattle.sem_run.specs.Ends.{WouldEnd}
 use Rattle.sem_run.specs.Texts.{text_of}
@@ -36,7 +36,7 @@ both-hold P Q (Err e) p q = absurd q
 
 module _ (g : Given) (J : List Entry) (text : List ℕ) where
   -- a part of a trace that was read
-  read-part : (T : Setup) → ReadsTrace g T → ReadsPart g
+  read-part : (T : Setup) → ReadsTrace g T → ReadsFront g
   read-part T trace = (trace.text, trace.taken)
 
   module _ (seed : ℕ) (T : Setup) (trace : ReadsTrace g T) (quiet : IsQuietlyRead g) (runs : IsSchedule T J) where
@@ -85,7 +85,7 @@ module _ (g : Given) (J : List Entry) (text : List ℕ) where
     files-end ReportRefused ends made = absurd ends
 
   -- a text that is refused
-  module _ (read : ReadsPart g) (quiet : IsQuietlyRead g) (empty : J ≡ []) where
+  module _ (read : ReadsFront g) (quiet : IsQuietlyRead g) (empty : J ≡ []) where
     text-ends : (line : List ℕ) → (text ≡ line → WouldEnd g J text TraceRefused) → (status : Status) → IsRefusalTold line text status → WouldEnd g J text status
     text-ends line refuses Done told = absurd told
     text-ends line refuses Usage told = absurd told
@@ -97,7 +97,7 @@ module _ (g : Given) (J : List Entry) (text : List ℕ) where
 
     module _ (seed : ℕ) (fault : TraceFault) where
       -- it is no trace
-      pub fault-ends : AsksRun g seed → IsRefused g fault → (status : Status) → IsRefusalTold (refused_line fault) text status → WouldEnd g J text status
+      pub fault-ends : AsksRun g seed → IsRefusedTrace g fault → (status : Status) → IsRefusalTold (refused_line fault) text status → WouldEnd g J text status
       fault-ends asked refused =
           text-ends (refused_line fault) (λ told. inl (record {
             seed = seed;

@@ -11,7 +11,7 @@ use Rattle.sem_io.proofs.Moves.{Takes-nil}
 use Rattle.sem_trace.specs.declared.fault.Cause.TheVariants.{InputTooLong}
 use Rattle.sem_trace.specs.declared.fault.TraceFault.{TraceFault}
 use Rattle.sem_trace.specs.Refusal.{refusal}
-use Rattle.sem_trace.specs.Standing.{Stands, IsWhy}
+use Rattle.sem_trace.specs.SetupOfText.{Stands, IsWhy}
 use Rattle.sem_trace.specs.declared.fault.TraceError.{TraceError}
 use Rattle.sem_trace.specs.declared.fault.TraceError.TheVariants.{Refused as RefusedText}
 use Rattle.sem_report.specs.declared.verdict.Verdict.{Verdict}
@@ -25,8 +25,8 @@ use Rattle.sem_msg.specs.declared.entry.Entry.{Entry}
 use Rattle.sem_files.specs.Files.{Files}
 use Rattle.sem_files.specs.Compiled.{AreFiles}
 use Rattle.sem_files.specs.FileRefusal.{refusal as files_refusal}
-use Rattle.sem_files.specs.Standing.{FilesStand}
-use Rattle.sem_run.specs.Inputs.{Given, Asks, IsUntouched, ReadsPart, ReadsTrace, ReadsFiles, IsQuietlyRead}
+use Rattle.sem_files.specs.FilesOfText.{FilesStand}
+use Rattle.sem_run.specs.Inputs.{Given, Asks, IsUntouched, ReadsFront, ReadsTrace, ReadsFiles, IsQuietlyRead}
 use Rattle.sem_run.specs.Reports.{IsVerdict, is_accepted, verdict_line}
 use Rattle.sem_run.specs.declared.findings.Finding.{Finding}
 use Rattle.sem_run.specs.Findings.{IsFound, IfAccepted, IsOf, IsAskable}
@@ -34,7 +34,7 @@ use Rattle.sem_run.specs.Readings.{Tells, IsVerdictTold}
 use Rattle.sem_run.specs.Ends.{WouldEnd}
 
 -- nothing was read
-pub untouched-part : (g : Given) → IsUntouched g → ReadsPart g
+pub untouched-part : (g : Given) → IsUntouched g → ReadsFront g
 untouched-part g untouched = ([], subst (λ after. Takes g.before after []) (sym untouched.unread) (Takes-nil g.before))
 
 -- the refusal of a text that is too long

@@ -26,8 +26,8 @@ use Rattle.sem_cli.specs.declared.statuses.Status.TheVariants.{Done, Usage, Trac
 use Rattle.sem_cli.specs.declared.statuses.Status.TheVariants.{Memory, ReportRefused}
 use Rattle.sem_cli.specs.Summary.{summary}
 use Rattle.sem_cli.specs.Messages.{usage_line, ok_line, refused_line, files_refused_line}
-use Rattle.sem_run.specs.Inputs.{Given, Asks, AsksRun, IsUntouched, ReadsPart, ReadsAll, ReadsTrace, ReadsFiles}
-use Rattle.sem_run.specs.Inputs.{RunsSetup, IsRefused, AreRefused, IsQuietlyRead, is_run, reads_input}
+use Rattle.sem_run.specs.Inputs.{Given, Asks, AsksRun, IsUntouched, ReadsFront, ReadsAll, ReadsTrace, ReadsFiles}
+use Rattle.sem_run.specs.Inputs.{RunsSetup, IsRefusedTrace, AreRefused, IsQuietlyRead, is_run, reads_input}
 use Rattle.sem_run.specs.Reports.{IsRefusedReport}
 
 -- What the program leaves: its status, the journal, and its output before and after the call.
@@ -157,8 +157,8 @@ pub record EndsTraceRefused (g : Given) (J : List Entry) (text : List ℕ) : Typ
   pub seed : ℕ
   pub command : AsksRun g seed
   pub fault : TraceFault
-  pub refused : IsRefused g fault
-  pub read : ReadsPart g
+  pub refused : IsRefusedTrace g fault
+  pub read : ReadsFront g
   pub quiet : IsQuietlyRead g
   pub no_journal : J ≡ []
   pub told : text ≡ refused_line fault
@@ -169,7 +169,7 @@ pub record EndsFilesRefused (g : Given) (J : List Entry) (text : List ℕ) : Typ
   pub command : Asks g (Files seed)
   pub fault : TraceFault
   pub refused : AreRefused g fault
-  pub read : ReadsPart g
+  pub read : ReadsFront g
   pub quiet : IsQuietlyRead g
   pub no_journal : J ≡ []
   pub told : text ≡ files_refused_line fault
@@ -183,7 +183,7 @@ pub record EndsReadFault (g : Given) (J : List Entry) (text : List ℕ) : Type 0
   pub asked : Command
   pub command : Asks g asked
   pub reads : reads_input asked ≡ true
-  pub read : ReadsPart g
+  pub read : ReadsFront g
   pub fault : Rose g.faults_before g.faults_after
   pub no_journal : J ≡ []
   pub told : text ≡ []
@@ -195,7 +195,7 @@ IsPartOfRun g J = (J ≡ []) ⊎ ((T : Setup) × RunsSetup g T × IsSchedule T J
 -- Status 5: memory was refused. At most a prefix of the input was read, and no read failed.
 pub record EndsMemory (g : Given) (J : List Entry) (text : List ℕ) : Type 0 where
   pub part : IsPartOfRun g J
-  pub read : ReadsPart g
+  pub read : ReadsFront g
   pub quiet : IsQuietlyRead g
   pub told : text ≡ []
 
@@ -207,7 +207,7 @@ pub record EndsReportRefused (g : Given) (J : List Entry) (text : List ℕ) : Ty
   pub bytes : List ℕ
   pub input : IfSome g.before (λ all. all ≡ bytes)
   pub refused : IsRefusedReport bytes text
-  pub read : ReadsPart g
+  pub read : ReadsFront g
   pub quiet : IsQuietlyRead g
   pub no_journal : J ≡ []
 

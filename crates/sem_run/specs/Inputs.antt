@@ -5,11 +5,11 @@ use Rattle.sem_machine.specs.Prelude.{Setup, IsSetup}
 use Rattle.sem_io.specs.SourceBytes.{Takes}
 use Rattle.sem_trace.specs.declared.fault.TraceFault.{TraceFault}
 use Rattle.sem_trace.specs.Refusal.{refusal}
-use Rattle.sem_trace.specs.Standing.{Stands}
+use Rattle.sem_trace.specs.SetupOfText.{Stands}
 use Rattle.sem_files.specs.Files.{Files as FileCommands}
 use Rattle.sem_files.specs.Compiled.{compiled, AreFiles}
 use Rattle.sem_files.specs.FileRefusal.{refusal as files_refusal}
-use Rattle.sem_files.specs.Standing.{FilesStand}
+use Rattle.sem_files.specs.FilesOfText.{FilesStand}
 use Rattle.sem_cli.specs.declared.forms.Command.{Command}
 use Rattle.sem_cli.specs.declared.forms.Command.TheVariants.{Run, Threads, Files, Generate, Soak, Ask}
 use Rattle.sem_cli.specs.Commands.{command_of}
@@ -80,8 +80,8 @@ pub record IsUntouched (g : Given) : Type 0 where
   pub quiet : g.faults_after ≡ g.faults_before
 
 -- some bytes from the front of the input were read, and no others
-abbrev pub ReadsPart : Given → Type 0
-ReadsPart g = (part : List ℕ) × Takes g.before g.after part
+abbrev pub ReadsFront : Given → Type 0
+ReadsFront g = (part : List ℕ) × Takes g.before g.after part
 
 -- the input was read to its end, and is that text
 pub record ReadsAll (g : Given) (text : List ℕ) : Type 0 where
@@ -114,8 +114,8 @@ pub data RunsSetup (g : Given) (T : Setup) : Type 0 where
       → Asks g (Soak seed vpes calls) → T ≡ generated seed vpes calls → IsSetup T → RunsSetup g T
 
 -- the input is no trace, and this is its first fault
-abbrev pub IsRefused : Given → TraceFault → Type 0
-IsRefused g fault = IfSome g.before (λ bytes. refusal bytes ≡ Some fault)
+abbrev pub IsRefusedTrace : Given → TraceFault → Type 0
+IsRefusedTrace g fault = IfSome g.before (λ bytes. refusal bytes ≡ Some fault)
 
 -- the input is no text of file commands, and this is its first fault
 abbrev pub AreRefused : Given → TraceFault → Type 0

@@ -5,10 +5,10 @@ use Rattle.sem_machine.specs.Prelude.{Setup}
 use Rattle.sem_io.specs.Count.{Rose}
 use Rattle.sem_trace.specs.declared.fault.TraceFault.{TraceFault}
 use Rattle.sem_trace.specs.Refusal.{refusal}
-use Rattle.sem_trace.specs.Standing.{Stands}
+use Rattle.sem_trace.specs.SetupOfText.{Stands}
 use Rattle.sem_files.specs.Files.{Files as FileCommands}
 use Rattle.sem_files.specs.FileRefusal.{refusal as files_refusal}
-use Rattle.sem_files.specs.Standing.{FilesStand}
+use Rattle.sem_files.specs.FilesOfText.{FilesStand}
 use Rattle.sem_cli.specs.declared.forms.Command.TheVariants.{Files, Generate, Soak, Ask}
 use Rattle.sem_cli.specs.declared.forms.Question.{Question}
 use Rattle.sem_cli.specs.declared.statuses.Status.{Status}

@@ -2,7 +2,7 @@
 ghost use Rattle.std.specs.Prelude.{◌≡◌, ◌≤◌, length, IfOk, IfErr, OnOk};
 ghost use Rattle.sem_machine.specs.Living.{IsComplete};
 ghost use Rattle.sem_check.specs.Verdicts.{TellsDifference, TellsNext};
-ghost use Rattle.sem_trace.specs.Standing.{IsWhy};
+ghost use Rattle.sem_trace.specs.SetupOfText.{IsWhy};
 ghost use Rattle.sem_report.specs.Audited.{audited, AuditFits, differing_line};
 ghost use Rattle.sem_report.specs.ReportRefusal.{report_refusal};
 ghost use Rattle.sem_audit.specs.HeldKeys.{IsAuditOf};

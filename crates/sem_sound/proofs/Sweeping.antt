@@ -43,13 +43,13 @@ freed-rows [] rows = refl
 freed-rows (c ∷ cs) rows = freed-rows cs (VpeRows.freed c.key.vpe c.selector rows)
 
 -- a capability of the list stands at that selector
-abbrev StandsAt : List Capability → ℕ → ℕ → Type 0
-StandsAt cs v sel = (c : Capability) × Contains cs c × (c.key.vpe ≡ v) × (c.selector ≡ sel)
+abbrev HasCapAt : List Capability → ℕ → ℕ → Type 0
+HasCapAt cs v sel = (c : Capability) × Contains cs c × (c.key.vpe ≡ v) × (c.selector ≡ sel)
 
 -- what is kept of a VPE then: what was, but that those selectors are free
 record Freed (cs : List Capability) (v : ℕ) (r r' : VpeRow) : Type 0 where
   same : r' ≡ record r { slots = r'.slots }
-  slots : (sel : ℕ) → (StandsAt cs v sel × (get_or r'.slots sel Free ≡ Free)) ⊎ ((StandsAt cs v sel → ⊥) × (get_or r'.slots sel Free ≡ get_or r.slots sel Free))
+  slots : (sel : ℕ) → (HasCapAt cs v sel × (get_or r'.slots sel Free ≡ Free)) ⊎ ((HasCapAt cs v sel → ⊥) × (get_or r'.slots sel Free ≡ get_or r.slots sel Free))
   untouched : ((c : Capability) → Contains cs c → c.key.vpe ≡ v → ⊥) → r' ≡ r
 
 freed-row : (cs : List Capability) (rows : List VpeRow) (v : ℕ) → Freed cs v (get_or rows v no_vpe) (get_or (freed_rows cs rows) v no_vpe)
@@ -202,7 +202,7 @@ module _ (T : Setup) (valid : IsSetup T) (i : ℕ) (few : i < T.kernels) (s : Si
   row-next v = ap (λ (r : VpeRow). r.next_number) (after-row v).same
 
   -- where one that is marked stands, nothing is promised
-  stands-held : (v sel : ℕ) → StandsAt ms v sel → (c : Capability) × Contains ms c × (slot s v sel ≡ Held c.key)
+  stands-held : (v sel : ℕ) → HasCapAt ms v sel → (c : Capability) × Contains ms c × (slot s v sel ≡ Held c.key)
   stands-held v sel (c, among, vpe, at) =
       let o = ms-from c among in
       (c, among, ap (λ w. slot s w sel) (sym vpe) ∙ (ap (λ q. slot s c.key.vpe q) (sym at) ∙ stands o.0 c o.1 o.2))

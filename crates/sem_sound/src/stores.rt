@@ -5,7 +5,6 @@ ghost use Rattle.sem_key.specs.Capability.{Capability};
 ghost use Rattle.sem_key.specs.Lists.{in_turn};
 ghost use Rattle.sem_msg.specs.declared.state.Up.{Up};
 ghost use Rattle.sem_msg.specs.Rows.{JobRow};
-ghost use Rattle.sem_msg.specs.declared.entry.Entry.{Entry};
 ghost use Rattle.sem_msg.specs.declared.event.Act.{Act};
 ghost use Rattle.sem_msg.specs.declared.message.Message.{Message};
 ghost use Rattle.sem_msg.specs.Setup.{Setup, IsSetup};
@@ -13,7 +12,7 @@ ghost use Rattle.sem_machine.specs.Sides.{Side, row, cap, job_opened, mark_all, 
 ghost use Rattle.sem_key.specs.Region.{region, children_of};
 ghost use Rattle.sem_machine.specs.Revokes.{request_or_adopt};
 ghost use Rattle.sem_machine.specs.Machine.{start_side, local_step, is_locally_enabled};
-ghost use Rattle.sem_machine.specs.Schedules.{IsSchedule, world_after};
+ghost use Rattle.sem_machine.specs.Schedules.{Always, world_after};
 ghost use Rattle.sem_machine.specs.Sound.{IsSound};
 ghost use Rattle.sem_sound.specs.SoundWorlds.{IsSoundInput, IsSoundWorld, all_parked_calls};
 ghost use Rattle.sem_machine.specs.Seeded.{is_call};
@@ -26,11 +25,10 @@ pub fn stores_stay_sound()
     ensures step { (T : Setup) → IsSetup T → (i : ℕ) → i < T.kernels → (s : Side) → IsSound T i s →
         (act : Act) → is_locally_enabled T i s act ≡ true → (input : Option Message) →
         IsSoundInput act input → IsSound T i (local_step T i s act input).side }
-    ensures answered { (T : Setup) → IsSetup T → (J : List Entry) → IsSchedule T J →
+    ensures answered { Always (λ T J.
         (world_after T J).replies + all_parked_calls (world_after T J)
-        ≤ count_by (λ e. is_call e.event.act) J }
-    ensures schedules { (T : Setup) → IsSetup T → (J : List Entry) → IsSchedule T J →
-        IsSoundWorld T (world_after T J) }
+        ≤ count_by (λ e. is_call e.event.act) J) }
+    ensures schedules { Always (λ T J. IsSoundWorld T (world_after T J)) }
 {}
 
 /// What calls of the stores also need. Ids and calls fit 32 bits. While a job opens, its count is

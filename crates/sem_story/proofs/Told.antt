@@ -17,7 +17,7 @@ use Rattle.sem_story.specs.declared.stages.Stage.{Stage}
 use Rattle.sem_story.specs.declared.stages.Stage.TheVariants.{Nowhere}
 use Rattle.sem_story.specs.declared.walks.When.{When}
 use Rattle.sem_story.specs.Stages.{stage_in}
-use Rattle.sem_story.specs.Telling.{entries_of, IsTold, AreTold, last_stage, stage_at}
+use Rattle.sem_story.specs.Telling.{entries_of, TellsStage, TellStages, last_stage, stage_at}
 use Rattle.sem_story.specs.Walks.{AreNoted, IsOneOf, Notes}
 
 -- what a row tells of n entries, where this was told before it
@@ -42,22 +42,22 @@ pub last-push : (rows : List StoryRow) (r : StoryRow) → last_stage (rows ++ r 
 last-push rows r = fold-append (λ (s : Stage) (x : StoryRow). x.stage) Nowhere rows (r ∷ [])
 
 module _ (T : Setup) (k : KeyName) where
-  told-longer : (J xs : List Entry) (r : StoryRow) → IsTold T J k r → IsTold T (J ++ xs) k r
+  told-longer : (J xs : List Entry) (r : StoryRow) → TellsStage T J k r → TellsStage T (J ++ xs) k r
   told-longer J xs r told = record {
     within = let long = length-append J xs in let within = told.within in omega (arith, long, within);
     stage = told.stage ∙ ap (λ (K : List Entry). stage_in T (world_after T K) k) (sym (take-append-le (entries_of r) J xs told.within));
   }
 
-  told-now : (J : List Entry) (r : StoryRow) → entries_of r ≡ length J → r.stage ≡ stage_in T (world_after T J) k → IsTold T J k r
+  told-now : (J : List Entry) (r : StoryRow) → entries_of r ≡ length J → r.stage ≡ stage_in T (world_after T J) k → TellsStage T J k r
   told-now J r all is = record {
     within = omega (arith, all);
     stage = is ∙ ap (λ (K : List Entry). stage_in T (world_after T K) k) (sym (take_all (entries_of r) J (omega (arith, all))));
   }
 
   -- rows that tell of a journal are those of it and an entry more, before that is noted
-  pub noted-before : (J : List Entry) (e : Entry) (rows : List StoryRow) → AreTold T J k rows → AreNoted T (J ++ e ∷ []) k rows
+  pub noted-before : (J : List Entry) (e : Entry) (rows : List StoryRow) → TellStages T J k rows → AreNoted T (J ++ e ∷ []) k rows
   noted-before J e rows are = record {
-    told = All-weaker (IsTold T J k) (IsTold T (J ++ e ∷ []) k) (told-longer J (e ∷ [])) rows are.told;
+    told = All-weaker (TellsStage T J k) (TellsStage T (J ++ e ∷ []) k) (told-longer J (e ∷ [])) rows are.told;
     rising = are.rising;
     earlier = λ n less.
         let long = length-append J (e ∷ []) in
@@ -69,22 +69,22 @@ module _ (T : Setup) (k : KeyName) where
   pub noted-more : (J : List Entry) (rows : List StoryRow) (r : StoryRow) → entries_of r ≡ length J → r.stage ≡ stage_in T (world_after T J) k →
       AreNoted T J k rows → AreNoted T J k (rows ++ r ∷ [])
   noted-more J rows r all is are = record {
-    told = All-push (IsTold T J k) rows r are.told (told-now J r all is);
+    told = All-push (TellsStage T J k) rows r are.told (told-now J r all is);
     rising = IsNonDecreasingBy-push entries_of rows r are.rising (λ d some.
-        let last : IsTold T J k (get_or rows (length rows - 1) d) = All-get_or (IsTold T J k) rows (length rows - 1) d (omega (arith, some)) are.told in
+        let last : TellsStage T J k (get_or rows (length rows - 1) d) = All-get_or (TellsStage T J k) rows (length rows - 1) d (omega (arith, some)) are.told in
         let within = last.within in
         omega (arith, within, all));
     earlier = λ n less. told-earlier n rows r (omega (arith, less, all)) ∙ are.earlier n less;
   }
 
   -- when the last row tells what has become of the key by the last entry, all is told
-  pub told-all : (J : List Entry) (rows : List StoryRow) → last_stage rows ≡ stage_in T (world_after T J) k → AreNoted T J k rows → AreTold T J k rows
+  pub told-all : (J : List Entry) (rows : List StoryRow) → last_stage rows ≡ stage_in T (world_after T J) k → AreNoted T J k rows → TellStages T J k rows
   told-all J rows last are = record {
     told = are.told;
     rising = are.rising;
     whole = λ n within. elim (cases_eq n (length J)) [
       | inl same ↦
-          let all : All (λ (r : StoryRow). entries_of r ≤ n) rows = All-weaker (IsTold T J k) (λ (r : StoryRow). entries_of r ≤ n) (λ r told. let in_all =
+          let all : All (λ (r : StoryRow). entries_of r ≤ n) rows = All-weaker (TellsStage T J k) (λ (r : StoryRow). entries_of r ≤ n) (λ r told. let in_all =
           told.within in omega (arith, in_all, same)) rows are.told in
           told-last n Nowhere rows all ∙ (last ∙ ap (λ (K : List Entry). stage_in T (world_after T K) k) (sym (take_all n J (omega (arith, same)))))
       | inr other ↦ are.earlier n (omega (arith, other, within))
@@ -92,25 +92,25 @@ module _ (T : Setup) (k : KeyName) where
   }
 
   -- then the last row tells what has become of the key in the end
-  pub told-end : (J : List Entry) (rows : List StoryRow) → AreTold T J k rows → last_stage rows ≡ stage_in T (world_after T J) k
+  pub told-end : (J : List Entry) (rows : List StoryRow) → TellStages T J k rows → last_stage rows ≡ stage_in T (world_after T J) k
   told-end J rows are =
       let all : All (λ (r : StoryRow). entries_of r ≤ length J) rows =
-      All-weaker (IsTold T J k) (λ (r : StoryRow). entries_of r ≤ length J) (λ r told. told.within) rows are.told in
+      All-weaker (TellsStage T J k) (λ (r : StoryRow). entries_of r ≤ length J) (λ r told. told.within) rows are.told in
       sym (told-last (length J) Nowhere rows all)
       ∙ (are.whole (length J) (omega arith) ∙ ap (λ (K : List Entry). stage_in T (world_after T K) k) (take_all (length J) J (omega arith)))
 
   -- no rows tell of no entry
   noted-none : AreNoted T [] k []
   noted-none = record {
-    told = All-nil (IsTold T [] k);
+    told = All-nil (TellsStage T [] k);
     rising = IsNonDecreasingBy-short entries_of [] (omega arith);
     earlier = λ n less. absurd (omega (arith, less));
   }
 
-  pub told-first : (r : StoryRow) → entries_of r ≡ 0 → r.stage ≡ stage_in T (start T) k → AreTold T [] k (r ∷ [])
+  pub told-first : (r : StoryRow) → entries_of r ≡ 0 → r.stage ≡ stage_in T (start T) k → TellStages T [] k (r ∷ [])
   told-first r none is = told-all [] (r ∷ []) is (noted-more [] [] r none is noted-none)
 
-  pub told-nowhere : Nowhere ≡ stage_in T (start T) k → AreTold T [] k []
+  pub told-nowhere : Nowhere ≡ stage_in T (start T) k → TellStages T [] k []
   told-nowhere is = told-all [] [] is noted-none
 
 -- what is noted when nothing is

@@ -13,7 +13,7 @@ abbrev pub entries_of : StoryRow → ℕ
 entries_of r = option_map_or (λ n. n + 1) r.entry 0
 
 -- the row tells the stage of the key after its entry, one of the journal
-pub record IsTold (T : Setup) (J : List Entry) (k : KeyName) (r : StoryRow) : Type 0 where
+pub record TellsStage (T : Setup) (J : List Entry) (k : KeyName) (r : StoryRow) : Type 0 where
   pub within : entries_of r ≤ length J
   pub stage : r.stage ≡ stage_in T (world_after T (take (entries_of r) J)) k
 
@@ -27,7 +27,7 @@ stage_at n rows = fold (λ stage r. if nat_lt n (entries_of r) then stage else r
 
 -- Each row tells the stage of the key after its entry. The entries never fall from row to row.
 -- After any number of entries the key has the stage that the last row by then tells.
-pub record AreTold (T : Setup) (J : List Entry) (k : KeyName) (rows : List StoryRow) : Type 0 where
-  pub told : All (IsTold T J k) rows
+pub record TellStages (T : Setup) (J : List Entry) (k : KeyName) (rows : List StoryRow) : Type 0 where
+  pub told : All (TellsStage T J k) rows
   pub rising : IsNonDecreasingBy entries_of rows
   pub whole : (n : ℕ) → n ≤ length J → stage_at n rows ≡ stage_in T (world_after T (take n J)) k

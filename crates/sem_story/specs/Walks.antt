@@ -7,15 +7,15 @@ use Rattle.sem_story.specs.declared.stages.Stage.{Stage}
 use Rattle.sem_story.specs.declared.walks.Walk.{Walk}
 use Rattle.sem_story.specs.declared.walks.When.{When}
 use Rattle.sem_story.specs.Stages.{stage_in}
-use Rattle.sem_story.specs.Telling.{entries_of, stage_at, IsTold, AreTold}
+use Rattle.sem_story.specs.Telling.{entries_of, stage_at, TellsStage, TellStages}
 
 -- the rows of a key with this stage before the first entry
 abbrev pub AreFirst : Stage → List StoryRow → Type 0
-AreFirst stage rows = (T : Setup) (k : KeyName) → stage ≡ stage_in T (start T) k → AreTold T [] k rows
+AreFirst stage rows = (T : Setup) (k : KeyName) → stage ≡ stage_in T (start T) k → TellStages T [] k rows
 
 -- The rows tell of the journal, whose last entry is being noted: they need not yet tell of its end.
 pub record AreNoted (T : Setup) (J : List Entry) (k : KeyName) (rows : List StoryRow) : Type 0 where
-  pub told : All (IsTold T J k) rows
+  pub told : All (TellsStage T J k) rows
   pub rising : IsNonDecreasingBy entries_of rows
   pub earlier : (n : ℕ) → n < length J → stage_at n rows ≡ stage_in T (world_after T (take n J)) k
 
@@ -33,4 +33,4 @@ IsOneOf stage one other = (stage ≡ one) ⊎ (stage ≡ other)
 pub record IsAfter (T : Setup) (J : List Entry) (k : KeyName) (w : Walk) : Type 0 where
   pub world : w.world ≡ record { setup = T; world = world_after T J }
   pub stage : w.stage ≡ stage_in T (world_after T J) k
-  pub rows : AreTold T J k w.rows.items
+  pub rows : TellStages T J k w.rows.items

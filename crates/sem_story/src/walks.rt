@@ -5,7 +5,7 @@ ghost use Rattle.sem_msg.specs.declared.entry.Entry.{Entry as EntryValue};
 ghost use Rattle.sem_machine.specs.Machine.{is_enabled};
 ghost use Rattle.sem_machine.specs.Schedules.{IsSchedule, world_after};
 ghost use Rattle.sem_story.specs.Stages.{stage_in};
-ghost use Rattle.sem_story.specs.Telling.{AreTold, last_stage};
+ghost use Rattle.sem_story.specs.Telling.{TellStages, last_stage};
 ghost use Rattle.sem_story.specs.Walks.{AreFirst, IsAfter, IsOneOf, Notes};
 
 use crate::rows::{Happening, StoryRow};
@@ -111,7 +111,7 @@ pub fn walk_through(
     key: Key,
 ) -> Result<Walk, OutOfMemory>
     requires { IsSchedule setup.now entries.now }
-    ensures rows { IfOk result (λ w. AreTold setup.now entries.now key w.rows.items) }
+    ensures rows { IfOk result (λ w. TellStages setup.now entries.now key w.rows.items) }
     ensures stage { IfOk result
         (λ w. w.stage ≡ stage_in setup.now (world_after setup.now entries.now) key) }
 {

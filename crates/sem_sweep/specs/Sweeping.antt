@@ -18,8 +18,9 @@ use Rattle.sem_machine.specs.Ends.{call_ended}
 use Rattle.sem_machine.specs.Stores.{with_jobs}
 
 -- the side with these VPEs, waiting calls and outboxes
-abbrev pub answering : VpeTable → List (Option Parked) → OutboxList → Side → Side
-answering vpes park outs s = with_vpes vpes.rows (with_parks park (with_outs outs.boxes s))
+abbrev pub with_vpes_parks_outs : VpeTable → List (Option Parked) → OutboxList → Side → Side
+with_vpes_parks_outs vpes park outs s =
+    with_vpes vpes.rows (with_parks park (with_outs outs.boxes s))
 
 -- the side with these VPEs, jobs, waiting calls and outboxes
 abbrev pub ending : VpeTable → JobStore → List (Option Parked) → OutboxList → Side → Side
@@ -27,8 +28,10 @@ ending vpes jobs park outs s =
     with_vpes vpes.rows (with_jobs jobs.jobs jobs.next (with_parks park (with_outs outs.boxes s)))
 
 -- the side with these capabilities, VPEs, waiting calls and outboxes
-abbrev pub closing : CapStore → VpeTable → List (Option Parked) → OutboxList → Side → Side
-closing caps vpes park outs s = with_caps caps.caps (answering vpes park outs s)
+abbrev pub with_caps_vpes_parks_outs :
+    CapStore → VpeTable → List (Option Parked) → OutboxList → Side → Side
+with_caps_vpes_parks_outs caps vpes park outs s =
+    with_caps caps.caps (with_vpes_parks_outs vpes park outs s)
 
 -- the side with these capabilities, VPEs, jobs, waiting calls and outboxes
 abbrev pub sweeping : CapStore → VpeTable → JobStore → List (Option Parked) → OutboxList → Side → Side

@@ -18,7 +18,8 @@ ghost use Rattle.sem_machine.specs.Asks.{call_refused, is_delegate_wait};
 ghost use Rattle.sem_machine.specs.Ends.{ask_ended};
 ghost use Rattle.sem_machine.specs.Sides.{Side};
 ghost use Rattle.sem_machine.specs.Stores.{with_outs, with_parks, with_vpes};
-ghost use Rattle.sem_sweep.specs.Sweeping.{CanOwe, HasAsker, answering, obtain_ended, unasked};
+ghost use Rattle.sem_sweep.specs.Sweeping.{CanOwe, HasAsker, obtain_ended, unasked};
+ghost use Rattle.sem_sweep.specs.Sweeping.{with_vpes_parks_outs};
 
 use crate::messages::{obtain_refusal, offer_refusal, tell, tell_owner};
 use sem_key::{Key, Place, same_key};
@@ -42,9 +43,9 @@ pub fn answer_asks(
     requires boxes { HasBoxes setup.now outs.old }
     requires spare { length (row vpes.old.rows vpe).asks ≤ outs.old.spare }
     ensures row { (s : Side) →
-        answering vpes.new park.new outs.new s
+        with_vpes_parks_outs vpes.new park.new outs.new s
         ≡ in_turn (ask_ended setup.now kernel) (row vpes.old.rows vpe).asks
-        (unasked vpe (answering vpes.old park.old outs.old s)) }
+        (unasked vpe (with_vpes_parks_outs vpes.old park.old outs.old s)) }
     ensures owes { CanOwe setup.now (state_of park.new vpe) }
     ensures ours { vpes.new.ours ≡ vpes.old.ours }
     ensures boxes { HasBoxes setup.now outs.new }
@@ -70,8 +71,8 @@ fn end_ask(
     requires boxes { HasBoxes setup.now outs.old }
     requires spare { 0 < outs.old.spare }
     ensures row { (s : Side) →
-        answering vpes.new park.new outs.new s
-        ≡ ask_ended setup.now kernel ask.now (answering vpes.old park.old outs.old s) }
+        with_vpes_parks_outs vpes.new park.new outs.new s
+        ≡ ask_ended setup.now kernel ask.now (with_vpes_parks_outs vpes.old park.old outs.old s) }
     ensures ours { vpes.new.ours ≡ vpes.old.ours }
     ensures boxes { HasBoxes setup.now outs.new }
     ensures spare { outs.old.spare ≤ outs.new.spare + 1 }
@@ -96,9 +97,9 @@ fn end_obtain(
     requires boxes { HasBoxes setup.now outs.old }
     requires spare { 0 < outs.old.spare }
     ensures row { (target : Target) (s : Side) →
-        answering vpes.new park.new outs.new s
+        with_vpes_parks_outs vpes.new park.new outs.new s
         ≡ ask_ended setup.now kernel (ObtainAsk place target)
-        (answering vpes.old park.old outs.old s) }
+        (with_vpes_parks_outs vpes.old park.old outs.old s) }
     ensures ours { vpes.new.ours ≡ vpes.old.ours }
     ensures boxes { HasBoxes setup.now outs.new }
     ensures spare { outs.old.spare ≤ outs.new.spare + 1 }

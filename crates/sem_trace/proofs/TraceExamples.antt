@@ -17,7 +17,7 @@ use Rattle.sem_trace.specs.Earlier.{is_ended}
 use Rattle.sem_trace.specs.Context.{context_fault}
 use Rattle.sem_trace.specs.Refusal.{body_fault, words_fault, line_fault, numbers, fault_at, first_fault, version_of, kernels_of, declarations_of, end_fault}
 use Rattle.sem_trace.specs.Refusal.{refusal}
-use Rattle.sem_trace.specs.Standing.{vpes_of, services_of, offers_of, denies_of, kills_of, setup_of, Stands}
+use Rattle.sem_trace.specs.SetupOfText.{vpes_of, services_of, offers_of, denies_of, kills_of, setup_of, Stands}
 
 -- each line with its line end
 abbrev ended_lines : List (List ℕ) → List ℕ

@@ -9,7 +9,7 @@ pub mod Declarations
 pub mod Earlier
 pub mod Context
 pub mod Refusal
-pub mod Standing
+pub mod SetupOfText
 pub mod Slots
 pub mod MessageForms
 pub mod CallForms

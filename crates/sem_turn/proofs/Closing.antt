@@ -13,7 +13,7 @@ use Rattle.sem_msg.specs.Fabric.{FabricValue}
 use Rattle.sem_turn.specs.declared.rule.Share.{Share}
 use Rattle.sem_turn.specs.declared.rule.View.{View}
 use Rattle.sem_turn.specs.Passes.{IsWhole}
-use Rattle.sem_turn.specs.Rule.{Fits, IsFree, IsHeld, IsInTurn, carries, once_below}
+use Rattle.sem_turn.specs.Rule.{IsShareOf, IsFree, IsTurnHeld, IsInTurn, carries, once_below}
 use Rattle.sem_turn.proofs.Totals.{is_of, is_of_hit, is_of_miss, shares_of, shares_of-cons, total_at, total_two}
 use Rattle.sem_turn.proofs.Opening.{once_below_yes, once_below_no}
 
@@ -138,7 +138,7 @@ pub record IsClosed (T : Setup) (ps : List Share) (xs : List (Option FabricValue
   pub fabric : FabricValue
   pub there : get_elem? xs 0 ≡ some (Some fabric)
   pub whole : IsWhole T fabric
-  pub fits : All (Fits fabric) ps
+  pub fits : All (IsShareOf fabric) ps
   pub once : (k : ℕ) → k < T.kernels → shares_of k ps ≡ 1
 
 -- some kernel is carried
@@ -158,7 +158,7 @@ closes key T id v ws xs key_is free len last =
     let once = each_once n v.shares len most in
     let there : get_elem? xs 0 ≡ some (Some h.fabric) = ⊎_elim
     (λ (home : IsFree s h.fabric). last.4 0 (Some h.fabric) (ap (λ hs. get_elem? hs 0) home.1))
-    (λ (held : IsHeld s h.fabric).
+    (λ (held : IsTurnHeld s h.fabric).
     let now = held.2 in
     let apart : now.0 ≢ id = λ e. absurd (let same : now.1 ≡ v = some-injective now.1 v (sym now.2 ∙ ap (λ j. get_elem? s.views j) e ∙ at) in
     cc (sym now.3 ∙ ap (λ (x : View). x.taken) same ∙ free)) in

@@ -10,7 +10,7 @@ use Rattle.atomic_table.proofs.Lists.{at_set, at_snoc, at_longer, set_else}
 use Rattle.sem_msg.specs.Setup.{Setup}
 use Rattle.sem_msg.specs.Fabric.{FabricValue}
 use Rattle.sem_turn.specs.declared.rule.View.{View}
-use Rattle.sem_turn.specs.Rule.{Fits, IsFree, IsHeld, IsInTurn, carries, once_below}
+use Rattle.sem_turn.specs.Rule.{IsShareOf, IsFree, IsTurnHeld, IsInTurn, carries, once_below}
 use Rattle.sem_turn.specs.Steps.{rest_of, front_of, cut_rest, cut_front, glued, nobody}
 use Rattle.sem_turn.proofs.Totals.{is_of, shares_of, total_set}
 use Rattle.sem_turn.proofs.Fitting.{fits-rest, fits-front, shares_of-cut}
@@ -39,7 +39,7 @@ split_moves T id v free s h at = record {
   whole = h.whole;
   stands = ⊎_elim
       (λ (home : IsFree s h.fabric). inl (home.0, home.1, all_split (λ u. u.taken ≡ None) s.views id (cut_rest v) (cut_front v) home.2 free refl))
-      (λ (held : IsHeld s h.fabric).
+      (λ (held : IsTurnHeld s h.fabric).
       let now = held.2 in
       let apart : now.0 ≢ id = not_holder s.views now.0 id now.1 v h.fabric now.2 now.3 at free in
       inr (
@@ -61,7 +61,7 @@ split_moves T id v free s h at = record {
         ),
       ))
       h.stands;
-  each = all_split (λ x. All (Fits h.fabric) x.shares) s.views id (cut_rest v) (cut_front v) h.each (fits-rest h.fabric v.shares (h.each id v at))
+  each = all_split (λ x. All (IsShareOf h.fabric) x.shares) s.views id (cut_rest v) (cut_front v) h.each (fits-rest h.fabric v.shares (h.each id v at))
       (fits-front h.fabric v.shares (h.each id v at));
   once = λ k.
       let t = total_set (carries k) s.views id v (cut_rest v) at in
@@ -95,7 +95,7 @@ join_moves T id other v w free free' s h at apart there =
       whole = h.whole;
       stands = ⊎_elim
           (λ (home : IsFree s h.fabric). inl (home.0, home.1, all (λ u. u.taken ≡ None) home.2 free refl))
-          (λ (held : IsHeld s h.fabric).
+          (λ (held : IsTurnHeld s h.fabric).
           let now = held.2 in
           let off : (i : ℕ) (u : View) → get_elem? s.views i ≡ some u → u.taken ≡ None →
           now.0 ≢ i = λ i u e none. not_holder s.views now.0 i now.1 u h.fabric now.2 now.3 e none in
@@ -118,8 +118,8 @@ join_moves T id other v w free free' s h at apart there =
             ),
           ))
           h.stands;
-      each = all (λ x. All (Fits h.fabric) x.shares) h.each (All-append (Fits h.fabric) v.shares w.shares (h.each id v at) (h.each other w there'))
-          (All-nil (Fits h.fabric));
+      each = all (λ x. All (IsShareOf h.fabric) x.shares) h.each (All-append (IsShareOf h.fabric) v.shares w.shares (h.each id v at) (h.each other w there'))
+          (All-nil (IsShareOf h.fabric));
       once = λ k.
           let t = total_set (carries k) s.views id v both at in
           let t2 = total_set (carries k) (set s.views id both) other w nobody there in

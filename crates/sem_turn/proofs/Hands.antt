@@ -10,7 +10,7 @@ use Rattle.sem_msg.specs.Journal.{part}
 use Rattle.sem_msg.specs.Fabric.{FabricValue}
 use Rattle.sem_turn.specs.declared.rule.Share.{Share}
 use Rattle.sem_turn.specs.Passes.{PassValue, new_pass, new_passes, times}
-use Rattle.sem_turn.specs.Rule.{Fits, share, view, new_shares}
+use Rattle.sem_turn.specs.Rule.{IsShareOf, share, view, new_shares}
 use Rattle.sem_turn.specs.Steps.{Sat, rest_of}
 use Rattle.sem_turn.proofs.Totals.{is_of, shares_of}
 use Rattle.sem_turn.proofs.Fitting.{fits-parts}
@@ -46,12 +46,12 @@ module _ (before after : List PassValue) (h : PassValue) (p : before ≡ after +
         let all' : z + x ≡ n = all in
         let r : w + y ≡ n = omega (arith, a', b', all') in r
 
-    pub popped_fits : (f : FabricValue) (all : List PassValue) → (All (Fits f) ps → HaveParts f.journal before → HaveParts f.journal all) → All (Fits f) qs
+    pub popped_fits : (f : FabricValue) (all : List PassValue) → (All (IsShareOf f) ps → HaveParts f.journal before → HaveParts f.journal all) → All (IsShareOf f) qs
         → HaveParts f.journal after → HaveParts f.journal all
     popped_fits f all was fit g =
-        let r = fits-parts f ps (share h.kernel h.entries h.placed ∷ []) (subst (All (Fits f)) q fit) in
+        let r = fits-parts f ps (share h.kernel h.entries h.placed ∷ []) (subst (All (IsShareOf f)) q fit) in
         was r.0 (subst (HaveParts f.journal) (sym p) (All-push (λ (x : PassValue). x.entries ≡ part f.journal x.kernel) after h g
-        (All-head (Fits f) (share h.kernel h.entries h.placed) [] r.1).0))
+        (All-head (IsShareOf f) (share h.kernel h.entries h.placed) [] r.1).0))
 
 -- The first seat carries the kernels from number k on: kernel k is in front, and behind the cut the others are left.
 module _ (k n : ℕ) (before : k < n) (me : Sat) (is : me ≡ (view (new_shares k (n - k)) None, [])) where

@@ -18,7 +18,7 @@ use Rattle.sem_msg.specs.Fabric.{FabricValue}
 use Rattle.sem_turn.specs.declared.rule.Share.{Share}
 use Rattle.sem_turn.specs.declared.rule.View.{View}
 use Rattle.sem_turn.specs.Passes.{has_place, IsWhole, Follows}
-use Rattle.sem_turn.specs.Rule.{Board, Fits, IsFree, IsHeld, IsInTurn, carries, once_below, share, view}
+use Rattle.sem_turn.specs.Rule.{Board, IsShareOf, IsFree, IsTurnHeld, IsInTurn, carries, once_below, share, view}
 use Rattle.sem_turn.specs.Steps.{Sat, Takes, Returns, shares_in}
 use Rattle.sem_turn.specs.Seats.{out_with}
 use Rattle.sem_turn.proofs.Totals.{is_of_hit, shares_of, shares_of-cons, total_set, total_two, set_at}
@@ -93,13 +93,13 @@ take_moves T id ps st some_share s h len at fits =
                 (at_set s.views id j w v e),
           ),
         );
-        each = all_set (λ v. All (Fits f) v.shares) s.views id w (λ j v _ e. h.each j v e) (h.each id (view ps None) at);
+        each = all_set (λ v. All (IsShareOf f) v.shares) s.views id w (λ j v _ e. h.each j v e) (h.each id (view ps None) at);
         once = once_set T.kernels s.views id (view ps None) w at (λ k. refl) h.once;
       },
       ((λ _. (f, refl, h.whole, h.each id (view ps None) at)), (λ ne. absurd (ne refl))),
     ) in
     subst (λ (x : List ℕ × Homes). Taken T id ps st s.views x.0 x.1) (λ i. (sym free.0 i, sym free.1 i)) go)
-    (λ (held : IsHeld s h.fabric).
+    (λ (held : IsTurnHeld s h.fabric).
     let same : IsInTurn T (board (1 ∷ []) (maybe.none ∷ []) s.views) =
     subst (λ (x : List ℕ × Homes). IsInTurn T (board x.0 x.1 s.views)) (λ i. (held.0 i, held.1 i)) h in
     let go : Taken T id ps st s.views (1 ∷ []) (maybe.none ∷ []) = (
@@ -142,7 +142,7 @@ return_moves : (T : Setup) (id k : ℕ) (ps : List Share) (f g : FabricValue) (s
 return_moves T id k ps f g st mine whole may s h len at fits =
     ⊎_elim
     (λ (free : IsFree s h.fabric). absurd (cc (free.2 id (view ps (Some f)) at)))
-    (λ (held : IsHeld s h.fabric).
+    (λ (held : IsTurnHeld s h.fabric).
     let now = held.2 in
     let here : id ≡ now.0 = dite (ℕ_discrete id now.0) (λ (e : id ≡ now.0). e) (λ (ne : id ≢ now.0). absurd (cc (now.5 id (view ps (Some f)) ne at))) in
     let same : now.1 ≡ view ps (Some f) = some-injective now.1 (view ps (Some f)) (sym now.2 ∙ ap (λ j. get_elem? s.views j) (sym here) ∙ at) in
@@ -170,7 +170,7 @@ return_moves T id k ps f g st mine whole may s h len at fits =
         fabric = g;
         whole = whole;
         stands = inl (refl, refl, all_set (λ v. v.taken ≡ None) s.views id w (λ j v ne e. now.5 j v (λ is. ne (is ∙ sym here)) e) refl);
-        each = all_set (λ v. All (Fits g) v.shares) s.views id w (λ j v ne e. fits-followed k h.fabric g v.shares may' (alone j v ne e) (h.each j v e))
+        each = all_set (λ v. All (IsShareOf g) v.shares) s.views id w (λ j v ne e. fits-followed k h.fabric g v.shares may' (alone j v ne e) (h.each j v e))
             (fits-self g ps);
         once = once_set T.kernels s.views id (view ps (Some f)) w at (λ k. sym (shares_of-in k g ps)) h.once;
       },

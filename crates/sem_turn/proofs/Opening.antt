@@ -17,7 +17,7 @@ use Rattle.sem_fabric.specs.Fabrics.{new_fabric}
 use Rattle.sem_fabric.proofs.Starts.{agrees-new}
 use Rattle.sem_turn.specs.declared.rule.View.{View}
 use Rattle.sem_turn.specs.Passes.{IsWhole}
-use Rattle.sem_turn.specs.Rule.{Fits, IsInTurn, carries, once_below, share, new_shares, first_view}
+use Rattle.sem_turn.specs.Rule.{IsShareOf, IsInTurn, carries, once_below, share, new_shares, first_view}
 use Rattle.sem_turn.proofs.Totals.{is_of_hit, is_of_miss, shares_of, shares_of-cons}
 
 pub once_below_yes : (k n : ℕ) → k < n → once_below k n ≡ 1
@@ -65,9 +65,9 @@ carried_once k n =
     (λ before. once_within k 0 n (omega arith) (omega arith) ∙ sym (once_below_yes k n (omega arith)))
 
 -- new shares fit a fabric whose journal is empty
-fits_new : (f : FabricValue) → f.journal ≡ [] → (a n : ℕ) → All (Fits f) (new_shares a n)
-fits_new f e a zero = All-nil (Fits f)
-fits_new f e a (suc n) = All-cons (Fits f) (share a [] false) (new_shares (a + 1) n) (sym (ap (λ J. part J a) e), λ no. absurd (cc no)) (fits_new f e (a + 1) n)
+fits_new : (f : FabricValue) → f.journal ≡ [] → (a n : ℕ) → All (IsShareOf f) (new_shares a n)
+fits_new f e a zero = All-nil (IsShareOf f)
+fits_new f e a (suc n) = All-cons (IsShareOf f) (share a [] false) (new_shares (a + 1) n) (sym (ap (λ J. part J a) e), λ no. absurd (cc no)) (fits_new f e (a + 1) n)
 
 -- a new fabric is whole
 new-whole : (T : Setup) → IsWhole T (new_fabric T)
@@ -78,7 +78,7 @@ begins T = record {
   fabric = new_fabric T;
   whole = new-whole T;
   stands = inl (refl, refl, only (λ v. v.taken ≡ None) refl);
-  each = only (λ v. All (Fits (new_fabric T)) v.shares) (fits_new (new_fabric T) refl 0 T.kernels);
+  each = only (λ v. All (IsShareOf (new_fabric T)) v.shares) (fits_new (new_fabric T) refl 0 T.kernels);
   once = λ k. sum_by-cons (carries k) (first_view T.kernels) [] ∙ alone (carries k (first_view T.kernels)) ∙ carried_once k T.kernels;
 }
   where

@@ -19,10 +19,11 @@ use Rattle.sem_turn.specs.Passes.{has_place, IsWhole}
 abbrev pub Board : Type 0
 Board = State (Option FabricValue) View
 
--- The share of a kernel fits the fabric: its entries are the kernel's part of the journal, and the
--- kernel has every place that it notes.
-abbrev pub Fits : FabricValue → Share → Type 0
-Fits f p = (p.entries ≡ part f.journal p.kernel) × (p.placed ≡ true → has_place f p.kernel ≡ true)
+-- The share of a kernel is one of the fabric: its entries are the kernel's part of the journal, and
+-- the kernel has every place that it notes.
+abbrev pub IsShareOf : FabricValue → Share → Type 0
+IsShareOf f p =
+    (p.entries ≡ part f.journal p.kernel) × (p.placed ≡ true → has_place f p.kernel ≡ true)
 
 -- The turn is free: the word is 0, the fabric is at home, and no view holds it.
 abbrev pub IsFree : Board → FabricValue → Type 0
@@ -32,8 +33,8 @@ IsFree s f =
 
 -- The turn is held: the word is 1 and the fabric is out. The view that took it carries a kernel,
 -- and no other view holds it.
-abbrev pub IsHeld : Board → FabricValue → Type 0
-IsHeld s f =
+abbrev pub IsTurnHeld : Board → FabricValue → Type 0
+IsTurnHeld s f =
     (s.words ≡ 1 ∷ []) × (s.homes ≡ maybe.none ∷ [])
     × ((holder : ℕ) × (h : View) × (get_elem? s.views holder ≡ maybe.some h) × (h.taken ≡ Some f)
     × (0 < length h.shares)
@@ -54,8 +55,9 @@ once_below k n = cond (nat_lt k n) 1 0
 pub record IsInTurn (T : Setup) (s : Board) : Type 0 where
   pub fabric : FabricValue
   pub whole : IsWhole T fabric
-  pub stands : IsFree s fabric ⊎ IsHeld s fabric
-  pub each : (j : ℕ) (v : View) → get_elem? s.views j ≡ maybe.some v → All (Fits fabric) v.shares
+  pub stands : IsFree s fabric ⊎ IsTurnHeld s fabric
+  pub each : (j : ℕ) (v : View) → get_elem? s.views j ≡ maybe.some v →
+      All (IsShareOf fabric) v.shares
   pub once : (k : ℕ) → sum_by (carries k) s.views ≡ once_below k T.kernels
 
 -- The start: the first seat's view carries every kernel, with no entry and no place.

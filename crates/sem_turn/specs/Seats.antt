@@ -23,5 +23,5 @@ placed_of [] = false
 placed_of (p ∷ ps) = p.placed
 
 -- a seat of this table that has nothing out
-abbrev pub IsIdle : TableId → Seat (Option FabricValue) View → Type 0
-IsIdle table seat = (seat.table_id ≡ table) × (seat.me.0.taken ≡ None) × (seat.me.1 ≡ [])
+abbrev pub IsIdleSeat : TableId → Seat (Option FabricValue) View → Type 0
+IsIdleSeat table seat = (seat.table_id ≡ table) × (seat.me.0.taken ≡ None) × (seat.me.1 ≡ [])

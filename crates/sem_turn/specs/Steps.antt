@@ -8,7 +8,7 @@ use Rattle.sem_msg.specs.Journal.{part}
 use Rattle.sem_turn.specs.declared.rule.Share.{Share}
 use Rattle.sem_turn.specs.declared.rule.View.{View}
 use Rattle.sem_turn.specs.Passes.{has_place, IsWhole}
-use Rattle.sem_turn.specs.Rule.{Fits, share, view}
+use Rattle.sem_turn.specs.Rule.{IsShareOf, share, view}
 
 -- a seat: its view, and its slots that are out, with what is in them
 abbrev pub Sat : Type 0
@@ -19,7 +19,7 @@ Sat = Me (Option FabricValue) View
 abbrev pub Takes : Setup → Step (Option FabricValue) → Sat → ℕ → Sat → Type 0
 Takes T s me found now =
     (found ≡ 0 → (f : FabricValue) × (now ≡ (view me.0.shares (Some f), (0, Some f) ∷ me.1)) × IsWhole T f
-    × All (Fits f) me.0.shares)
+    × All (IsShareOf f) me.0.shares)
     × (found ≢ 0 → now ≡ me)
 
 -- the shares of the same kernels, as the fabric has them

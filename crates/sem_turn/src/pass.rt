@@ -1,6 +1,6 @@
 ghost use Rattle.std.specs.Prelude.{◌≡◌, ◌<◌, ◌∷◌, [], None};
 ghost use Rattle.sem_turn.specs.Rule.{share};
-ghost use Rattle.sem_turn.specs.Seats.{IsIdle};
+ghost use Rattle.sem_turn.specs.Seats.{IsIdleSeat};
 
 use crate::name::RunName;
 use crate::rule::View;
@@ -54,7 +54,7 @@ impl<N: RunName> Pass<N> {
     // The pass's seat, which carries its kernel.
     pub(crate) fn into_seat(self) -> Seat<Option<Fabric>, View>
         requires { self.taken ≡ None }
-        ensures idle { IsIdle N.table result }
+        ensures idle { IsIdleSeat N.table result }
         ensures carries { result.me.0.shares ≡ share self.kernel self.entries self.placed ∷ [] }
     {
         let Pass {

@@ -2,9 +2,9 @@ ghost use Rattle.std.specs.Prelude.{◌≡◌, ◌<◌, ◌≤◌, ◌∷◌, �
 ghost use Rattle.std.specs.Prelude.{IfOk, IfSome, IfNone, IsSomeAnd, None, Some, true, false};
 ghost use Rattle.sem_msg.specs.Journal.{part};
 ghost use Rattle.sem_turn.specs.Passes.{new_pass, new_passes, times, has_place, IsWhole, Follows};
-ghost use Rattle.sem_turn.specs.Rule.{Fits, carries, first_view, share, view as view_of};
+ghost use Rattle.sem_turn.specs.Rule.{IsShareOf, carries, first_view, share, view as view_of};
 ghost use Rattle.sem_turn.specs.Steps.{rest_of};
-ghost use Rattle.sem_turn.specs.Seats.{IsIdle};
+ghost use Rattle.sem_turn.specs.Seats.{IsIdleSeat};
 
 use crate::name::RunName;
 use crate::opened::{Board, Place};
@@ -93,7 +93,7 @@ impl<N: RunName> Turn<N> {
 
     // Takes the fabric out of its slot; none if another seat has the turn.
     fn try_out(&self, seat: &mut Place) -> Option<Fabric>
-        requires idle { IsIdle N.table seat.old }
+        requires idle { IsIdleSeat N.table seat.old }
         requires carries { 0 < length seat.old.me.0.shares }
         ensures table { seat.new.table_id ≡ N.table }
         ensures none { IfNone result (seat.new.me ≡ seat.old.me) }
@@ -101,7 +101,7 @@ impl<N: RunName> Turn<N> {
           view_of seat.old.me.0.shares (Some f),
           (0, None) ∷ [],
         )) }
-        ensures fits { IfSome result (λ f. All (Fits f) seat.old.me.0.shares) }
+        ensures fits { IfSome result (λ f. All (IsShareOf f) seat.old.me.0.shares) }
         ensures whole { IfSome result (IsWhole N.setup) }
     {
         if self.board.shared.compare_exchange::<Take<N>>(seat, 0, 0, 1) == 0 {
@@ -187,9 +187,9 @@ impl<N: RunName> Turn<N> {
 
     // Lets the seat carry the pass's kernel too.
     fn join(&self, seat: &mut Place, pass: Pass<N>)
-        requires seat { IsIdle N.table seat.old }
+        requires seat { IsIdleSeat N.table seat.old }
         requires pass { pass.taken ≡ None }
-        ensures idle { IsIdle N.table seat.new }
+        ensures idle { IsIdleSeat N.table seat.new }
         ensures carries { seat.new.me.0.shares ≡ seat.old.me.0.shares
             ++ share pass.kernel pass.entries pass.placed ∷ [] }
     {
@@ -198,9 +198,9 @@ impl<N: RunName> Turn<N> {
 
     // The fabric, once one seat carries all kernels.
     fn finish(self, seat: Place) -> Fabric
-        requires idle { IsIdle N.table seat }
+        requires idle { IsIdleSeat N.table seat }
         requires count { length seat.me.0.shares ≡ N.setup.kernels }
-        ensures fits { All (Fits result) seat.me.0.shares }
+        ensures fits { All (IsShareOf result) seat.me.0.shares }
         ensures once { (k : ℕ) → k < N.setup.kernels → carries k seat.me.0 ≡ 1 }
         ensures whole { IsWhole N.setup result }
     {

@@ -1,7 +1,8 @@
-use sem_draw::{Ending, Picture};
-use sem_key::{Key, Kind};
+use sem_draw::{Answer, Ending, Picture};
+use sem_key::{Key, Kind, OutOfMemory};
 use sem_report::read_report;
 use sem_tree::{TreeForm, TreeRequest, forest_lines, takes, tree, tree_rows};
+use std::alloc::Global;
 use std::test::Fail;
 
 // A revoke takes what a call at the other kernel is ready to install.
@@ -319,27 +320,52 @@ end
 
 #[test]
 fn what_no_run_makes_is_refused(rt: HostRuntime) -> Result<(), Fail> {
-    let key = ">0.0.1.0</text>";
-    let hint = "<title>semper-view story 0.0.1.0</title>";
-    for (at, report, ending, said) in [
-        (None, WRONG, Ending::Refused, ["", ""]),
-        (Some(0), WRONG, Ending::Done, [key, hint]),
-        (Some(2), WRONG, Ending::WrongWords, ["", ""]),
-        (Some(2), b"semper".as_slice(), Ending::Refused, ["", ""]),
-    ] {
-        let request = TreeRequest {
-            form: TreeForm::Drawn {
-                picture: Picture::Svg,
-            },
-            at,
-        };
-        let answer = tree(rt.alloc(), &request, report)?;
+    let cases = [
+        (None, WRONG, Ending::Refused, "entry 0 is not the one"),
+        (
+            Some(2),
+            WRONG,
+            Ending::WrongWords,
+            "there are no 2 entries: the report has 1\n",
+        ),
+        (
+            Some(2),
+            b"semper".as_slice(),
+            Ending::Refused,
+            "the input is no report: line 1",
+        ),
+    ];
+    for (at, report, ending, said) in cases {
+        let answer = drawn(rt.alloc(), at, report)?;
         assert_eq!(rt; answer.ending, ending);
-        for part in said {
-            assert!(rt; answer.out.as_str().contains(part), "{part}");
-        }
+        assert_eq!(rt; answer.out.as_str(), "");
+        assert!(rt; answer.error.as_str().starts_with(said), "{said}");
     }
     Ok(())
+}
+
+#[test]
+fn what_stands_before_a_wrong_entry_is_drawn(rt: HostRuntime) -> Result<(), Fail> {
+    let answer = drawn(rt.alloc(), Some(0), WRONG)?;
+    assert_eq!(rt; answer.ending, Ending::Done);
+    for part in [
+        ">0.0.1.0</text>",
+        "<title>semper-view story 0.0.1.0</title>",
+    ] {
+        assert!(rt; answer.out.as_str().contains(part), "{part}");
+    }
+    Ok(())
+}
+
+// The forest after that many entries, as a picture.
+fn drawn(alloc: Global, at: Option<u64>, report: &[u8]) -> Result<Answer, OutOfMemory> {
+    let request = TreeRequest {
+        form: TreeForm::Drawn {
+            picture: Picture::Svg,
+        },
+        at,
+    };
+    tree(alloc, &request, report)
 }
 
 // A root in the second report.

@@ -1,7 +1,11 @@
 -- What a kernel keeps of its VPEs as contracts see it ("State" in docs/machine.md).
 use Rattle.std.specs.Prelude.{◌≡◌, ℕ, ◌≤◌, Bool, false, IsTrue, List, length, slice_index_or}
+use Rattle.std.specs.Prelude.{Option, Some, None}
+use Rattle.sem_key.specs.KeyName.{KeyName}
 use Rattle.sem_msg.specs.Prelude.{VPES, NUMBERS, VpeRow, no_vpe, Setup, kernel_of}
 use Rattle.sem_msg.specs.declared.limits.TheConstants.{SELECTORS, ASKS}
+use Rattle.sem_msg.specs.declared.state.Slot.{Slot}
+use Rattle.sem_msg.specs.declared.state.Slot.TheVariants.{Free, Held, Promised}
 use Rattle.sem_msg.specs.VpeRows.{row}
 
 pub record VpeTable : Type 0 where
@@ -16,6 +20,12 @@ IsOurs t v = IsTrue (slice_index_or t.ours v false)
 -- the VPEs of kernel i belong to it
 abbrev pub AreOurs : Setup → ℕ → VpeTable → Type 0
 AreOurs T i t = (v : ℕ) → kernel_of T v ≡ i → IsOurs t v
+
+-- the key that a slot holds
+abbrev pub slot_key : Slot → Option KeyName
+slot_key Free = None
+slot_key (Held k) = Some k
+slot_key Promised = None
 
 -- What always holds.
 

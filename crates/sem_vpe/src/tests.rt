@@ -145,6 +145,11 @@ pub fn selector(rt: &impl Abort, vpes: &Vpes, vpe: u16, sel: u8) -> Slot {
     vpes.selector(vpe, sel)
 }
 
+pub fn held_key(rt: &impl Abort, vpes: &Vpes, vpe: u16, sel: u8) -> Option<Key> {
+    assert!(rt; vpes.is_ours(vpe));
+    vpes.held_key(vpe, sel)
+}
+
 pub fn next_call(rt: &impl Abort, vpes: &Vpes, vpe: u16) -> u32 {
     assert!(rt; vpes.is_ours(vpe));
     vpes.next_call(vpe)
@@ -271,6 +276,7 @@ fn a_selector_is_promised_filled_and_released(rt: HostRuntime) -> Result<(), Fai
     assert_eq!(rt; promise(&rt, &mut vpes, 2, 7), Err(Occupied), "it is held");
     assert_eq!(rt; promise(&rt, &mut vpes, 2, 8), Ok(()));
     assert_eq!(rt; selector(&rt, &vpes, 2, 8), Slot::Promised);
+    assert_eq!(rt; held_key(&rt, &vpes, 2, 8), None);
     assert_eq!(rt;
         promise(&rt, &mut vpes, 2, 8),
         Err(Occupied),
@@ -278,6 +284,7 @@ fn a_selector_is_promised_filled_and_released(rt: HostRuntime) -> Result<(), Fai
     );
     fill(&rt, &mut vpes, 2, 8, key(Kind::Send, 3));
     assert_eq!(rt; selector(&rt, &vpes, 2, 8), Slot::Held(key(Kind::Send, 3)));
+    assert_eq!(rt; held_key(&rt, &vpes, 2, 8), Some(key(Kind::Send, 3)));
     release(&rt, &mut vpes, 2, 8);
     assert_eq!(rt; selector(&rt, &vpes, 2, 8), Slot::Free);
     assert_eq!(rt; selector(&rt, &vpes, 2, 7), Slot::Held(key(Kind::Mem, 0)));

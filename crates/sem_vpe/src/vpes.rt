@@ -4,7 +4,7 @@ ghost use Rattle.std.specs.Prelude.{OnErr};
 ghost use Rattle.sem_msg.specs.declared.state.Slot.TheVariants.{Held};
 ghost use Rattle.sem_msg.specs.VpeRows.{row, is_alive, slot as slot_lem, is_taken, call_counted};
 ghost use Rattle.sem_msg.specs.VpeRows.{drawn, with_slot, promised, freed, asked, ask_taken, died};
-ghost use Rattle.sem_vpe.specs.VpeTable.{IsOurs, IsVpeRow, IsVpeTable};
+ghost use Rattle.sem_vpe.specs.VpeTable.{IsOurs, IsVpeRow, IsVpeTable, slot_key};
 ghost use Rattle.sem_vpe.specs.Starting.{IsAsDeclared, start_place, start_table};
 
 use crate::fault::{Numbers, Occupied};
@@ -64,6 +64,17 @@ impl Vpes {
         ensures { result ≡ slot_lem self.now.rows vpe sel }
     {
         self.kept(vpe).selector(sel)
+    }
+
+    /// The key that the selector of the VPE holds; none if it holds none.
+    pub fn held_key(&self, vpe: u16, sel: u8) -> Option<Key>
+        requires { IsOurs self.now vpe }
+        ensures { result ≡ slot_key (slot_lem self.now.rows vpe sel) }
+    {
+        match self.selector(vpe, sel) {
+            Slot::Held(key) => Some(key),
+            Slot::Free | Slot::Promised => None,
+        }
     }
 
     /// How many calls of the VPE were counted.

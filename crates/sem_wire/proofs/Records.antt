@@ -20,7 +20,7 @@ use Rattle.sem_wire.specs.declared.rows.Rows.{Rows}
 use Rattle.sem_wire.specs.Records.{blank, place_word, record_of, rows_in, rows_of, spelled, with_object}
 use Rattle.sem_wire.specs.Grammar.{wire_fault}
 use Rattle.sem_wire.specs.Reading.{message_in}
-use Rattle.sem_wire.specs.Standing.{message_of, IsRecord}
+use Rattle.sem_wire.specs.MessageOfBytes.{message_of, IsRecord}
 use Rattle.sem_wire.proofs.Steps.{fault_in}
 use Rattle.sem_wire.proofs.Faults.{reads_to_the_fault}
 use Rattle.sem_wire.proofs.Decoded.{message_decoded}

@@ -1,4 +1,4 @@
 pub mod Records
 pub mod Grammar
 pub mod Reading
-pub mod Standing
+pub mod MessageOfBytes

@@ -3,7 +3,7 @@ ghost use Rattle.sem_msg.specs.declared.message.Message.{Message};
 ghost use Rattle.sem_msg.specs.Message.{Fits};
 ghost use Rattle.sem_wire.specs.Records.{record_of, rows_in};
 ghost use Rattle.sem_wire.specs.Grammar.{wire_fault};
-ghost use Rattle.sem_wire.specs.Standing.{message_of};
+ghost use Rattle.sem_wire.specs.MessageOfBytes.{message_of};
 
 /// Every fitting message has exactly one record, of 64 bytes, and every record has exactly one
 /// message. The grammar finds nothing wrong with 64 bytes exactly if they are the record of a

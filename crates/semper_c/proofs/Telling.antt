@@ -9,7 +9,7 @@ use Rattle.sem_msg.specs.Setup.{Setup}
 use Rattle.sem_io.specs.Count.{Rose}
 use Rattle.sem_io.specs.SourceBytes.{Takes}
 use Rattle.sem_io.specs.SinkBytes.{Appends}
-use Rattle.sem_trace.specs.Standing.{Stands}
+use Rattle.sem_trace.specs.SetupOfText.{Stands}
 use Rattle.sem_reader.proofs.Decimals.{number_of-decimal}
 use Rattle.sem_machine.specs.Seeded.{seeded}
 use Rattle.sem_machine.specs.Living.{IsComplete}
@@ -27,7 +27,7 @@ use Rattle.sem_run.specs.Reports.{IsReport, IsRefusedReport}
 use Rattle.sem_run.specs.Ends.{IsAnswer, EndsReported, EndsDone, EndsRefused}
 use Rattle.sem_run.specs.Serves.{Serves, IsOrFails}
 use Rattle.sem_run.proofs.Asked.{not-both, not-run, no-run, no-files}
-use Rattle.semper_c.specs.Answers.{IsRun, IsTraceRefused, IsAnswered, RunAnswer, ReportAnswer}
+use Rattle.semper_c.specs.Answers.{IsSeededReport, IsTraceRefused, AnswersQuestion, RunAnswer, ReportAnswer}
 use Rattle.semper_c.specs.Served.{from_memory, to_memory}
 
 -- the words that ask for a run
@@ -86,7 +86,7 @@ module _ (input : List ℕ) (rest : Option (List ℕ)) (J : List Entry) (text : 
     abbrev g : Given
     g = from_memory (Some (Run seed)) input rest
 
-    reported : (told : List ℕ) → text ≡ told → EndsReported g J told → IsRun input seed text
+    reported : (told : List ℕ) → text ≡ told → EndsReported g J told → IsSeededReport input seed text
     reported told is ends =
         let T : Setup = ends.setup in
         let same : ends.seed ≡ seed = sym (ap seed_in (same_Some (Run seed) (Run ends.seed) ends.run.command)) in
@@ -102,7 +102,7 @@ module _ (input : List ℕ) (rest : Option (List ℕ)) (J : List Entry) (text : 
           told = is ∙ (ends.told ∙ ap (λ j. report T j) made);
         }
 
-    run-done : (told : List ℕ) → text ≡ told → EndsDone g J told → IsRun input seed text
+    run-done : (told : List ℕ) → text ≡ told → EndsDone g J told → IsSeededReport input seed text
     run-done told is (inl ends) = reported told is ends
     run-done told is (inr (inl ends)) = absurd (not-run g (Ask ends.question) (Run seed) ends.command refl refl refl)
     run-done told is (inr (inr (inl ends))) = absurd (not-run g (Generate ends.seed ends.vpes ends.calls) (Run seed) ends.command refl refl refl)
@@ -141,7 +141,7 @@ module _ (input : List ℕ) (rest : Option (List ℕ)) (J : List Entry) (text : 
     abbrev h : Given
     h = from_memory (Some (Ask question)) input rest
 
-    report-done : (told : List ℕ) → text ≡ told → EndsDone h J told → IsAnswered question input text
+    report-done : (told : List ℕ) → text ≡ told → EndsDone h J told → AnswersQuestion question input text
     report-done told is (inl ends) = absurd (not-run h (Ask question) (Run ends.seed) refl refl ends.run.command refl)
     report-done told is (inr (inl ends)) =
         let T : Setup = ends.setup in

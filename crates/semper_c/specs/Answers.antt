@@ -4,7 +4,7 @@ use Rattle.std.specs.Prelude.{◌≡◌, ◌⊎◌, ℕ, ◌<◌, ◌≤◌, Lis
 use Rattle.sem_machine.specs.Prelude.{Entry, Setup, IsSetup, seeded, IsComplete}
 use Rattle.sem_trace.specs.declared.fault.TraceFault.{TraceFault}
 use Rattle.sem_trace.specs.Refusal.{refusal}
-use Rattle.sem_trace.specs.Standing.{Stands}
+use Rattle.sem_trace.specs.SetupOfText.{Stands}
 use Rattle.sem_machine.specs.Safety.{IsSafe}
 use Rattle.sem_audit.specs.HeldKeys.{report}
 use Rattle.sem_cli.specs.declared.forms.Question.{Question}
@@ -17,7 +17,7 @@ use Rattle.sem_run.specs.Reports.{IsReport, IsRefusedReport}
 use Rattle.sem_run.specs.Ends.{IsAnswer}
 
 -- The text is the report of the seeded journal of the trace, and that journal is complete and safe.
-pub record IsRun (trace : List ℕ) (seed : ℕ) (text : List ℕ) : Type 0 where
+pub record IsSeededReport (trace : List ℕ) (seed : ℕ) (text : List ℕ) : Type 0 where
   pub setup : Setup
   pub valid : IsSetup setup
   pub stands : Stands trace setup
@@ -33,7 +33,7 @@ pub record IsTraceRefused (trace text : List ℕ) : Type 0 where
 
 -- the answer to a trace and a seed: a status and a text
 abbrev pub RunAnswer : (trace : List ℕ) (seed : ℕ) → Status → List ℕ → Type 0
-RunAnswer trace seed Done text = IsRun trace seed text
+RunAnswer trace seed Done text = IsSeededReport trace seed text
 RunAnswer trace seed Usage text = ⊥
 RunAnswer trace seed TraceRefused text = IsTraceRefused trace text
 RunAnswer trace seed ReadFault text = ⊥
@@ -42,7 +42,7 @@ RunAnswer trace seed Memory text = text ≡ []
 RunAnswer trace seed ReportRefused text = ⊥
 
 -- The bytes are the report of a complete schedule, and the text answers the question about it.
-pub record IsAnswered (question : Question) (bytes text : List ℕ) : Type 0 where
+pub record AnswersQuestion (question : Question) (bytes text : List ℕ) : Type 0 where
   pub setup : Setup
   pub entries : List Entry
   pub valid : IsSetup setup
@@ -52,7 +52,7 @@ pub record IsAnswered (question : Question) (bytes text : List ℕ) : Type 0 whe
 
 -- the answer to a question about a report: a status and a text
 abbrev pub ReportAnswer : Question → (bytes : List ℕ) → Status → List ℕ → Type 0
-ReportAnswer question bytes Done text = IsAnswered question bytes text
+ReportAnswer question bytes Done text = AnswersQuestion question bytes text
 ReportAnswer question bytes Usage text = ⊥
 ReportAnswer question bytes TraceRefused text = ⊥
 ReportAnswer question bytes ReadFault text = ⊥
@@ -65,7 +65,7 @@ abbrev pub too_small : ℕ
 too_small = 10
 
 -- The text is at the front of the buffer, and the number is that of the status.
-pub record IsTold (status : Status) (text before after : List ℕ) (number : ℕ) : Type 0 where
+pub record TellsStatus (status : Status) (text before after : List ℕ) (number : ℕ) : Type 0 where
   pub fits : length text ≤ length before
   pub written : after ≡ text ++ drop (length text) before
   pub numbered : number ≡ status_number status
@@ -85,4 +85,4 @@ pub record Hands
   pub text : List ℕ
   pub answer : Answer status text
   pub counted : count ≡ length text
-  pub handed : IsTold status text before after number ⊎ IsTooLong text before after number
+  pub handed : TellsStatus status text before after number ⊎ IsTooLong text before after number

@@ -30,7 +30,7 @@ to_memory status journal text faults = record {
 }
 
 -- The program serves the words with that status and text, and no write failed.
-pub record IsServed
+pub record ServesWords
     (asked : Option Command) (input : List ℕ)
     (status : Status) (text : List ℕ) : Type 0 where
   pub rest : Option (List ℕ)
@@ -42,4 +42,4 @@ pub record IsServed
 -- the program serves so, or memory was refused and there is no text
 abbrev pub IsServedOrLacks : Option Command → List ℕ → Status → List ℕ → Type 0
 IsServedOrLacks asked input status text =
-    IsServed asked input status text ⊎ ((status ≡ Memory) × (text ≡ []))
+    ServesWords asked input status text ⊎ ((status ≡ Memory) × (text ≡ []))

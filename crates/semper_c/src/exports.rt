@@ -1,7 +1,7 @@
 ghost use Rattle.std.specs.Prelude.{◌≡◌, ◌⊎◌, length};
 ghost use Rattle.sem_cli.specs.declared.forms.Question.TheVariants.{Check as CheckQuestion};
 ghost use Rattle.sem_cli.specs.declared.forms.Question.TheVariants.{Contents as ContentsQuestion};
-ghost use Rattle.semper_c.specs.Answers.{Hands, IsTold, IsTooLong, RunAnswer, ReportAnswer};
+ghost use Rattle.semper_c.specs.Answers.{Hands, TellsStatus, IsTooLong, RunAnswer, ReportAnswer};
 
 use crate::answers::{Answer, check, contents, run};
 use std::alloc::Global;
@@ -61,7 +61,7 @@ pub extern "C" fn semper_contents(
 // status, or TOO_SMALL.
 fn hand_over(answer: &Answer, out: &mut [u8], written: &mut usize) -> u32
     ensures counted { written.new ≡ length answer.now.text.items }
-    ensures handed { IsTold answer.now.status answer.now.text.items out.old out.new result
+    ensures handed { TellsStatus answer.now.status answer.now.text.items out.old out.new result
         ⊎ IsTooLong answer.now.text.items out.old out.new result }
 {
     let length = answer.text.len();

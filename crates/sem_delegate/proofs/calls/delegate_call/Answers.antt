@@ -1,4 +1,4 @@
-use Rattle.std.proofs.Common.{sym, ap, ◌∙◌}
+use Rattle.std.proofs.Common.{sym, ap, ◌∙◌, rules}
 use Rattle.sem_key.specs.Capability.{capability_of}
 use Rattle.sem_machine.specs.Calls.{delegate_tests}
 use Rattle.sem_machine.specs.Stores.{with_caps}
@@ -21,5 +21,5 @@ returns-clause-row c s =
     ap (λ o. record { side = with_caps c.args.caps.now.caps (offering c.make_offer.new.vpes c.make_offer.new.park c.make_offer.new.outs s); outcome = o })
     c.nothing.ensures
     ∙ c.make_offer.ensures.row (with_caps c.args.caps.now.caps s)
-    ∙ sym (delegate-done c.args.setup.now c.args.kernel side c.args.vpe c.args.src c.args.other c.args.dst (capability_of c.in-Some-own_cap.cap.now)
-    c.in_default.ensures c.in-Some-own_cap.ensures)
+    ∙ sym (delegate-done c.args.setup.now c.args.kernel side c.args.vpe c.args.src c.args.other c.args.dst (capability_of c.in-Some-and_then.cap.now)
+    c.in_default.ensures (search rules))

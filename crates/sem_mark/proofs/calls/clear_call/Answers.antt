@@ -1,5 +1,4 @@
-use Rattle.std.proofs.Common.{◌≡◌, true, [], ◌∷◌, length, None, sym, ap, ◌∙◌}
-use Rattle.std.proofs.lemmas.Option.{same_Some}
+use Rattle.std.proofs.Common.{◌≡◌, true, [], ◌∷◌, length, None, sym, ap, ◌∙◌, rules}
 use Rattle.sem_key.specs.KeyName.{KeyName}
 use Rattle.sem_key.specs.Capability.{Capability, capability_of}
 use Rattle.sem_msg.specs.declared.state.Parked.TheVariants.{RevokeWait}
@@ -25,12 +24,12 @@ pub returns-clause-row : goal.returns-clause-row
 returns-clause-row c s =
     let side : Side = revoking c.args.caps.now c.args.vpes.now c.args.dtus.now c.args.jobs.now c.args.park.now c.args.outs.now s in
     (λ i. record { side = c.begin_call-done.ensures.row (with_vpes c.args.vpes.now.rows s) i; outcome = c.cut.ensures i })
-    ∙ sym (clear-done c.args.setup.now c.args.kernel side c.args.vpe c.args.sel (capability_of c.in-Some-own_cap.cap.now) c.in_default.ensures
-    c.in-Some-own_cap.ensures)
+    ∙ sym (clear-done c.args.setup.now c.args.kernel side c.args.vpe c.args.sel (capability_of c.in-Some-and_then.cap.now) c.in_default.ensures
+    (search rules))
 
 pub returns-clause-opened : goal.returns-clause-opened
 returns-clause-opened c is d held s =
-    let same : capability_of c.in-Some-own_cap.cap.now ≡ d = same_Some _ _ (c.in-Some-own_cap.ensures ∙ held) in
+    let same : capability_of c.in-Some-and_then.cap.now ≡ d = search rules in
     let key = ap (λ (x : Capability). x.key) same in
     let side : Side = revoking c.args.caps.now c.args.vpes.now c.args.dtus.now c.args.jobs.now c.args.park.now c.args.outs.now s in
     c.begin_call-done.ensures.opened (with_vpes c.args.vpes.now.rows s)

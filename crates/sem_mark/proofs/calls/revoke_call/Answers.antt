@@ -1,5 +1,4 @@
-use Rattle.std.proofs.Common.{◌≡◌, ℕ, false, [], ◌∷◌, length, None, sym, ap, ◌∙◌}
-use Rattle.std.proofs.lemmas.Option.{same_Some}
+use Rattle.std.proofs.Common.{◌≡◌, ℕ, false, [], ◌∷◌, length, None, sym, ap, ◌∙◌, rules}
 use Rattle.sem_key.specs.KeyName.{KeyName}
 use Rattle.sem_key.specs.Capability.{Capability, capability_of}
 use Rattle.sem_msg.specs.declared.state.Parked.TheVariants.{RevokeWait}
@@ -15,7 +14,7 @@ pub returns-in_default-clause-row : goal.returns-in_default-clause-row
 returns-in_default-clause-row c s =
     let side : Side = revoking c.args.caps.now c.args.vpes.now c.args.dtus.now c.args.jobs.now c.args.park.now c.args.outs.now s in
     (λ i. record { side = finish-none c.args.setup.now c.args.kernel (length side.jobs) side i; outcome = c.answered.ensures i })
-    ∙ sym (revoke-none c.args.setup.now c.args.kernel side c.args.vpe c.args.sel c.in_default.ensures)
+    ∙ sym (revoke-none c.args.setup.now c.args.kernel side c.args.vpe c.args.sel (search rules))
 
 -- a job has marked it
 pub returns-in-Some-mark-clause-row : goal.returns-in-Some-mark-clause-row
@@ -29,18 +28,18 @@ returns-in-Some-mark-clause-row c s =
     λ i. revoking c.args.caps.now c.args.vpes.now c.args.dtus.now (c.wait.ensures i) (c.park.ensures.states i) c.args.outs.now s in
     let whole = finish-none T c.args.kernel (length after.jobs) after ∙ waits in
     (λ i. record { side = whole i; outcome = c.cut.ensures i })
-    ∙ sym (revoke-marked T c.args.kernel side v c.args.sel (capability_of c.in-Some.cap.now) j c.in-Some.ensures c.in-Some-mark.is)
+    ∙ sym (revoke-marked T c.args.kernel side v c.args.sel (capability_of c.in-Some.cap.now) j (search rules) c.in-Some-mark.is)
 
 -- no job has marked it
 pub returns-clause-row : goal.returns-clause-row
 returns-clause-row c s =
     let side : Side = revoking c.args.caps.now c.args.vpes.now c.args.dtus.now c.args.jobs.now c.args.park.now c.args.outs.now s in
     (λ i. record { side = c.begin_call-done.ensures.row (with_vpes c.args.vpes.now.rows s) i; outcome = c.cut-2.ensures i })
-    ∙ sym (revoke-open c.args.setup.now c.args.kernel side c.args.vpe c.args.sel (capability_of c.in-Some.cap.now) c.in-Some.ensures c.in_default-mark.is)
+    ∙ sym (revoke-open c.args.setup.now c.args.kernel side c.args.vpe c.args.sel (capability_of c.in-Some.cap.now) (search rules) c.in_default-mark.is)
 
 pub returns-clause-opened : goal.returns-clause-opened
 returns-clause-opened c is d held s =
-    let same : capability_of c.in-Some.cap.now ≡ d = same_Some _ _ (c.in-Some.ensures ∙ held) in
+    let same : capability_of c.in-Some.cap.now ≡ d = search rules in
     let key = ap (λ (x : Capability). x.key) same in
     let side : Side = revoking c.args.caps.now c.args.vpes.now c.args.dtus.now c.args.jobs.now c.args.park.now c.args.outs.now s in
     c.begin_call-done.ensures.opened (with_vpes c.args.vpes.now.rows s)

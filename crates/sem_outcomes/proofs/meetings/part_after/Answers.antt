@@ -2,7 +2,7 @@ use Rattle.std.proofs.Common.{arith, List, [], refl, sym, ◌∙◌, ap, subst}
 use Rattle.std.proofs.lemmas.List.{get_or_read}
 use Rattle.sem_machine.specs.Machine.{entry_of}
 use Rattle.sem_machine.specs.Schedules.{world_after}
-use Rattle.sem_numbering.specs.Nodes.{Node, IsMissing}
+use Rattle.sem_numbering.specs.Nodes.{Node, HasNoNode}
 use Rattle.sem_outcomes.specs.declared.steps.Step.{Step}
 use Rattle.sem_outcomes.specs.Met.{journal_at, HistoriesValue}
 use Rattle.sem_outcomes.proofs.Meeting.{own-tree, fabric-own, fabric-peer, from-within, part-found, pushed-met, pushed-numbers}
@@ -67,7 +67,7 @@ returns-in-Ok-clause-met c =
     c.requires.links
     c.args.from c.requires.from c.input_of-message.result c.input_of-message.ensures c.index_mut.result.now
     (get_or_read c.histories.inside.trees.items _ _ less c.index_mut.ensures.value [])
-    (subst (λ (ms : List Node). IsMissing ms c.args.from c.args.event c.input_of-message.result)
+    (subst (λ (ms : List Node). HasNoNode ms c.args.from c.args.event c.input_of-message.result)
     (get_or_read c.histories.inside.trees.items _ _ less c.index.ensures []
     ∙ sym (get_or_read c.histories.inside.trees.items _ _ less c.index_mut.ensures.value []))
     c.in_default.ensures.none)
@@ -83,7 +83,7 @@ returns-in-Ok-clause-number c =
     c.args.fabric.now c.requires.links
     c.args.from c.requires.from c.input_of-message.result c.input_of-message.ensures c.index_mut.result.now
     (get_or_read c.histories.inside.trees.items _ _ less c.index_mut.ensures.value [])
-    (subst (λ (ms : List Node). IsMissing ms c.args.from c.args.event c.input_of-message.result)
+    (subst (λ (ms : List Node). HasNoNode ms c.args.from c.args.event c.input_of-message.result)
     (get_or_read c.histories.inside.trees.items _ _ less c.index.ensures []
     ∙ sym (get_or_read c.histories.inside.trees.items _ _ less c.index_mut.ensures.value []))
     c.in_default.ensures.none)

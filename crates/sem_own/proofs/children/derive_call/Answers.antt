@@ -1,4 +1,4 @@
-use Rattle.std.proofs.Common.{refl, sym, ap, ◌∙◌}
+use Rattle.std.proofs.Common.{refl, sym, ap, ◌∙◌, rules}
 use Rattle.sem_key.specs.Capability.{capability_of}
 use Rattle.sem_machine.specs.Sides.{no_side, slot}
 use Rattle.sem_machine.specs.Calls.{derive_tests, child_made}
@@ -20,14 +20,14 @@ make_child-requires-clause-number c = derive-number (holding c.args.caps.now c.a
 
 pub make_child-requires-clause-child_room : goal.make_child-requires-clause-child_room
 make_child-requires-clause-child_room c = child-room c.args.caps.now (holding c.args.caps.now c.args.vpes.now no_side)
-    (slot (holding c.args.caps.now c.args.vpes.now no_side) c.args.vpe c.args.src) (capability_of c.in-Some-own_cap.parent.now) refl c.in-Some-own_cap.ensures
+    (slot (holding c.args.caps.now c.args.vpes.now no_side) c.args.vpe c.args.src) (capability_of c.in-Some-and_then.parent.now) refl (search rules)
     c.requires.child_room
 
 -- no test holds
 pub returns-clause-row : goal.returns-clause-row
 returns-clause-row c s =
     c.make_child.ensures.row s
-    ∙ ap (λ o. child_made c.args.setup.now c.args.vpe c.args.dst o c.in-Some-own_cap.parent.now.key (holding c.args.caps.now c.args.vpes.now s))
+    ∙ ap (λ o. child_made c.args.setup.now c.args.vpe c.args.dst o c.in-Some-and_then.parent.now.key (holding c.args.caps.now c.args.vpes.now s))
     c.narrowed-object.ensures
     ∙ sym (derive-done c.args.setup.now (holding c.args.caps.now c.args.vpes.now s) c.args.vpe c.args.src c.args.dst c.args.part.now.off c.args.part.now.len
-    c.args.part.now.rights (capability_of c.in-Some-own_cap.parent.now) c.in_default.ensures c.in-Some-own_cap.ensures)
+    c.args.part.now.rights (capability_of c.in-Some-and_then.parent.now) c.in_default.ensures (search rules))

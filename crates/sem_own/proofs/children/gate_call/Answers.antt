@@ -1,4 +1,4 @@
-use Rattle.std.proofs.Common.{refl, sym, ◌∙◌}
+use Rattle.std.proofs.Common.{refl, sym, ◌∙◌, rules}
 use Rattle.sem_key.specs.Capability.{capability_of}
 use Rattle.sem_machine.specs.Sides.{no_side, slot}
 use Rattle.sem_machine.specs.Calls.{gate_tests}
@@ -20,7 +20,7 @@ make_child-requires-clause-number c = gate-number (holding c.args.caps.now c.arg
 
 pub make_child-requires-clause-child_room : goal.make_child-requires-clause-child_room
 make_child-requires-clause-child_room c = child-room c.args.caps.now (holding c.args.caps.now c.args.vpes.now no_side)
-    (slot (holding c.args.caps.now c.args.vpes.now no_side) c.args.vpe c.args.src) (capability_of c.in-Some-own_cap.parent.now) refl c.in-Some-own_cap.ensures
+    (slot (holding c.args.caps.now c.args.vpes.now no_side) c.args.vpe c.args.src) (capability_of c.in-Some-and_then.parent.now) refl (search rules)
     c.requires.child_room
 
 -- no test holds
@@ -28,4 +28,4 @@ pub returns-clause-row : goal.returns-clause-row
 returns-clause-row c s =
     c.make_child.ensures.row s
     ∙ sym (gate-done c.args.setup.now (holding c.args.caps.now c.args.vpes.now s) c.args.vpe c.args.src c.args.dst c.args.label c.args.credits
-    (capability_of c.in-Some-own_cap.parent.now) c.in_default.ensures c.in-Some-own_cap.ensures)
+    (capability_of c.in-Some-and_then.parent.now) c.in_default.ensures (search rules))

@@ -1,4 +1,4 @@
-use Rattle.std.proofs.Common.{sym, ◌∙◌}
+use Rattle.std.proofs.Common.{sym, ◌∙◌, rules}
 use Rattle.sem_key.specs.Capability.{capability_of}
 use Rattle.sem_machine.specs.Calls.{bind_tests}
 use Rattle.sem_machine.specs.Stores.{with_endpoints}
@@ -18,4 +18,4 @@ pub returns-clause-row : goal.returns-clause-row
 returns-clause-row c s =
     let side = with_endpoints c.args.dtus.now.rows (holding c.args.caps.now c.args.vpes.now s) in
     (λ i. record { side = with_endpoints (c.bind.ensures i).rows (holding c.args.caps.now c.args.vpes.now s); outcome = c.answered-2.ensures i })
-    ∙ sym (bind-done side c.args.vpe c.args.ep c.args.src (capability_of c.in-Some-own_cap.cap.now) c.in_default.ensures c.in-Some-own_cap.ensures)
+    ∙ sym (bind-done side c.args.vpe c.args.ep c.args.src (capability_of c.in-Some-and_then.cap.now) c.in_default.ensures (search rules))

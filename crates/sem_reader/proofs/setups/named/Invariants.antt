@@ -1,5 +1,5 @@
 use Rattle.std.proofs.Common.{◌≡◌, drop}
-use Rattle.sem_trace.specs.Standing.{named}
+use Rattle.sem_trace.specs.SetupOfText.{named}
 use Rattle.sem_reader.proofs.setups.named.Given as goal
 
 -- none of the services so far has the name

@@ -1,5 +1,5 @@
 use Rattle.std.proofs.Common.{◌≡◌, take}
-use Rattle.sem_trace.specs.Standing.{services_among}
+use Rattle.sem_trace.specs.SetupOfText.{services_among}
 use Rattle.sem_reader.proofs.setups.services_among.Given as goal
 
 -- the services of the VPEs so far

@@ -1,7 +1,7 @@
 use Rattle.std.proofs.Common.{◌≡◌}
 use Rattle.std.specs.List.{filter_map}
 use Rattle.sem_trace.specs.Refusal.{numbers}
-use Rattle.sem_trace.specs.Standing.{named, services_among}
+use Rattle.sem_trace.specs.SetupOfText.{named, services_among}
 use Rattle.sem_reader.proofs.setups.services_of.Given as goal
 
 -- the services of the names so far

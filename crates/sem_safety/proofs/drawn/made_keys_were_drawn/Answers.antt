@@ -2,4 +2,4 @@ use Rattle.sem_safety.proofs.OneLife.{made-drawn}
 use Rattle.sem_safety.proofs.drawn.made_keys_were_drawn.Goals as goal
 
 pub returns : goal.returns
-returns c = record { drawn = λ T J valid runs. made-drawn T valid J runs }
+returns c = record { drawn = made-drawn }

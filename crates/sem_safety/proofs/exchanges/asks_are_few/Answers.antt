@@ -12,16 +12,16 @@ pub returns-clause-few : goal.returns-clause-few
 returns-clause-few c = few-asks
 
 pub returns-clause-obtain : goal.returns-clause-obtain
-returns-clause-obtain c = λ T J valid runs i w from place target fetched. room-at-handling T J runs valid i w place.vpe from (ObtainReq place target) fetched
+returns-clause-obtain c = λ T valid J runs i w from place target fetched. room-at-handling T J runs valid i w place.vpe from (ObtainReq place target) fetched
     (λ v0. refl)
 
 pub returns-clause-delegate : goal.returns-clause-delegate
-returns-clause-delegate c = λ T J valid runs i w from vpe sel parent object fetched. room-at-handling T J runs valid i w parent.vpe from
+returns-clause-delegate c = λ T valid J runs i w from vpe sel parent object fetched. room-at-handling T J runs valid i w parent.vpe from
     (DelegateReq parent object vpe sel) fetched (λ v0. refl)
 
 -- a VPE that is alive and waits for nothing is free
 pub returns-clause-call : goal.returns-clause-call
-returns-clause-call c = λ T J valid runs i w v alive unparked.
+returns-clause-call c = λ T valid J runs i w v alive unparked.
     let s : Side = side (world_after T J) i in
     let may : free (row s v) (parked s v) ≡ 1 =
     cond-true ((row s v).alive && not (waits (parked s v))) 1 0

@@ -3,7 +3,7 @@ use Rattle.std.proofs.lemmas.List.{take_more, take_all, length-take-le}
 use Rattle.sem_msg.specs.declared.entry.Entry.{Entry}
 use Rattle.sem_machine.specs.Schedules.{world_after}
 use Rattle.sem_story.specs.Stages.{stage_in}
-use Rattle.sem_story.specs.Telling.{AreTold}
+use Rattle.sem_story.specs.Telling.{TellStages}
 use Rattle.sem_story.specs.Walks.{IsAfter}
 use Rattle.sem_story.proofs.Walking.{next-enabled, with-it}
 use Rattle.sem_story.proofs.walks.walk_through.Goals as goal
@@ -29,7 +29,7 @@ loop-place-preserved c =
     (sym (length-take-le i J within)) c.loop-place.invariant)
 
 pub returns-clause-rows : goal.returns-clause-rows
-returns-clause-rows c = subst (λ (K : List Entry). AreTold c.args.setup.now K c.args.key c.loop-place.walk.rows.items)
+returns-clause-rows c = subst (λ (K : List Entry). TellStages c.args.setup.now K c.args.key c.loop-place.walk.rows.items)
     (take_all c.loop-place.place c.args.entries.now c.loop-place-test.false) c.loop-place.invariant.rows
 
 pub returns-clause-stage : goal.returns-clause-stage

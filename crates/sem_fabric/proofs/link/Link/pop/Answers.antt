@@ -1,7 +1,7 @@
 use Rattle.std.proofs.Common.{sym, ap, subst}
 use Rattle.std.specs.List.{All}
 use Rattle.std.proofs.lemmas.List.Elements.{All-drop}
-use Rattle.sem_wire.specs.Standing.{IsRecord}
+use Rattle.sem_wire.specs.MessageOfBytes.{IsRecord}
 use Rattle.sem_fabric.proofs.link.Link.pop.Goals as goal
 
 -- the records that are left are records

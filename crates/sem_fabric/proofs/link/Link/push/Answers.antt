@@ -1,7 +1,7 @@
 use Rattle.std.proofs.Common.{◌≡◌, [], ◌∷◌, ◌++◌, sym, ap, subst, ◌∙◌}
 use Rattle.std.specs.Prelude.{OnOk}
 use Rattle.std.specs.List.{All}
-use Rattle.sem_wire.specs.Standing.{IsRecord}
+use Rattle.sem_wire.specs.MessageOfBytes.{IsRecord}
 use Rattle.sem_fabric.specs.Links.{relined}
 use Rattle.sem_fabric.specs.contracts.link.Link.{the_view}
 use Rattle.sem_fabric.proofs.Messages.{pushed-all, link-pushed}

@@ -1,6 +1,6 @@
 use Rattle.std.proofs.Common.{◌≡◌, ◌<◌, ◌≤◌, arith, [], length, get_or, sym, ◌∙◌, subst}
 use Rattle.std.proofs.lemmas.List.{length-map}
-use Rattle.sem_numbering.specs.Nodes.{Node, IsMissing}
+use Rattle.sem_numbering.specs.Nodes.{Node, HasNoNode}
 use Rattle.sem_numbering.proofs.Children.{Others, lists, missing, none-so, read}
 use Rattle.sem_numbering.proofs.parts.PartTree.find.Goals as goal
 
@@ -16,7 +16,7 @@ returns-clause-none c =
     let low : from ≤ length nodes = subst (λ ns. from ≤ length ns) (sym c.self.view_is) c.requires in
     let here : from < length children = omega (arith, long, many, low) in
     let places = c.as_slice-2.ensures.value ∙ sym (read children from c.index-children.result.now c.index-children.result.now here c.index-children.ensures) in
-    none-so c.find_node.result (λ none. subst (λ ns. IsMissing ns from by input) c.self.view_is
+    none-so c.find_node.result (λ none. subst (λ ns. HasNoNode ns from by input) c.self.view_is
     (missing nodes (lists children) c.self.invariant from by input
     (subst (Others nodes from by input) places (subst (λ ns. Others ns from by input c.as_slice-2.result.now) c.as_slice.ensures.value none))))
     c.find_node.ensures.none

@@ -2,7 +2,7 @@ use Rattle.std.proofs.Common.{[], rules}
 use Rattle.std.specs.Option.{option_map}
 use Rattle.sem_msg.specs.declared.setup.VpeDecl.{VpeDecl}
 use Rattle.sem_trace.specs.Earlier.{kill_in}
-use Rattle.sem_trace.specs.Standing.{kills_of}
+use Rattle.sem_trace.specs.SetupOfText.{kills_of}
 use Rattle.sem_reader.proofs.MoreItems.{more_item}
 use Rattle.sem_reader.proofs.tables.Tables.kills_of.Goals as goal
 

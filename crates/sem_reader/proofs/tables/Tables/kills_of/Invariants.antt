@@ -1,6 +1,6 @@
 use Rattle.std.proofs.Common.{◌≡◌, ℕ, List, take}
 use Rattle.sem_trace.specs.declared.declaration.Declaration.{Declaration}
-use Rattle.sem_trace.specs.Standing.{kills_of}
+use Rattle.sem_trace.specs.SetupOfText.{kills_of}
 use Rattle.sem_reader.specs.Tells.{Tells}
 use Rattle.sem_reader.proofs.tables.Tables.kills_of.Given as goal
 

@@ -1,7 +1,7 @@
 use Rattle.std.proofs.Common.{ℕ, Option, ap, sym, ◌∙◌}
 use Rattle.std.specs.Option.{option_map_or}
 use Rattle.sem_trace.specs.declared.limits.TheConstants.{LINK_WINDOW}
-use Rattle.sem_trace.specs.Standing.{services_of, offers_of, denies_of}
+use Rattle.sem_trace.specs.SetupOfText.{services_of, offers_of, denies_of}
 use Rattle.sem_reader.proofs.SetupIs.{plain_vpes, setup_is, same_setup}
 use Rattle.sem_reader.proofs.tables.Tables.setup.Goals as goal
 

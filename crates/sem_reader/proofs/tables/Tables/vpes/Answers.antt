@@ -2,7 +2,7 @@ use Rattle.std.proofs.Common.{◌≡◌, ℕ, [], ap, ◌∙◌, arith}
 use Rattle.std.specs.List.{filter_map}
 use Rattle.sem_trace.specs.Refusal.{numbers}
 use Rattle.sem_trace.specs.Earlier.{vpe_in}
-use Rattle.sem_trace.specs.Standing.{vpes_of}
+use Rattle.sem_trace.specs.SetupOfText.{vpes_of}
 use Rattle.sem_reader.proofs.MoreItems.{numbers-none, more_number}
 use Rattle.sem_reader.proofs.tables.Tables.vpes.Goals as goal
 

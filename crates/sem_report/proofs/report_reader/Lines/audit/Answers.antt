@@ -3,7 +3,7 @@ use Rattle.std.specs.Prelude.{codes}
 use Rattle.std.proofs.lemmas.Result.{err_from_is_err_and}
 use Rattle.sem_report.specs.WholeLines.{whole_lines}
 use Rattle.sem_report.specs.ReportRefusal.{Form, name_form, count_form, held_form, count_at}
-use Rattle.sem_report.specs.ReadsReport.{Follows}
+use Rattle.sem_report.specs.ReadsReport.{HaveForms}
 use Rattle.sem_report.proofs.ReportSteps.{drop_more, count_behind, follows_both, stops_behind, stops_before}
 use Rattle.sem_report.proofs.report_reader.Lines.audit.Goals as goal
 
@@ -19,7 +19,7 @@ returns-in_err-held-clause-err c =
     let second : whole_lines c.count.new.self.rest.now ≡ drop 2 lines = drop_more lines _ _ 1 c.in_ok-name.ensures.behind c.in_ok-made.ensures.behind in
     let third : whole_lines c.count-2.new.self.rest.now ≡ drop 3 lines = drop_more lines _ _ 2 second c.in_ok-cut.ensures.behind in
     let held : count_at lines 3 ≡ c.in_ok-number.number = count_behind 3 lines _ third ∙ c.in_ok-number.ensures.count in
-    let first : Follows four (c.args.self.now.number + 1) lines (c.count-3.new.self.number + 1) (whole_lines c.count-3.new.self.rest.now) =
+    let first : HaveForms four (c.args.self.now.number + 1) lines (c.count-3.new.self.number + 1) (whole_lines c.count-3.new.self.rest.now) =
     follows_both (name_form (codes "audit") ∷ []) (count_form (codes "made") ∷ count_form (codes "cut") ∷ count_form (codes "held") ∷ []) _ _ _ _ _ _
     c.in_ok-name.ensures.ok
     (follows_both (count_form (codes "made") ∷ []) (count_form (codes "cut") ∷ count_form (codes "held") ∷ []) _ _ _ _ _ _ c.in_ok-made.ensures.ok
@@ -34,7 +34,7 @@ returns-in_err-name-2-clause-err c =
     let second : whole_lines c.count.new.self.rest.now ≡ drop 2 lines = drop_more lines _ _ 1 c.in_ok-name.ensures.behind c.in_ok-made.ensures.behind in
     let third : whole_lines c.count-2.new.self.rest.now ≡ drop 3 lines = drop_more lines _ _ 2 second c.in_ok-cut.ensures.behind in
     let held : count_at lines 3 ≡ c.in_ok-number.number = count_behind 3 lines _ third ∙ c.in_ok-number.ensures.count in
-    let first : Follows four (c.args.self.now.number + 1) lines (c.count-3.new.self.number + 1) (whole_lines c.count-3.new.self.rest.now) =
+    let first : HaveForms four (c.args.self.now.number + 1) lines (c.count-3.new.self.number + 1) (whole_lines c.count-3.new.self.rest.now) =
     follows_both (name_form (codes "audit") ∷ []) (count_form (codes "made") ∷ count_form (codes "cut") ∷ count_form (codes "held") ∷ []) _ _ _ _ _ _
     c.in_ok-name.ensures.ok
     (follows_both (count_form (codes "made") ∷ []) (count_form (codes "cut") ∷ count_form (codes "held") ∷ []) _ _ _ _ _ _ c.in_ok-made.ensures.ok
@@ -49,7 +49,7 @@ returns-clause-ok c =
     let second : whole_lines c.count.new.self.rest.now ≡ drop 2 lines = drop_more lines _ _ 1 c.in_ok-name.ensures.behind c.in_ok-made.ensures.behind in
     let third : whole_lines c.count-2.new.self.rest.now ≡ drop 3 lines = drop_more lines _ _ 2 second c.in_ok-cut.ensures.behind in
     let held : count_at lines 3 ≡ c.in_ok-number.number = count_behind 3 lines _ third ∙ c.in_ok-number.ensures.count in
-    let first : Follows four (c.args.self.now.number + 1) lines (c.count-3.new.self.number + 1) (whole_lines c.count-3.new.self.rest.now) =
+    let first : HaveForms four (c.args.self.now.number + 1) lines (c.count-3.new.self.number + 1) (whole_lines c.count-3.new.self.rest.now) =
     follows_both (name_form (codes "audit") ∷ []) (count_form (codes "made") ∷ count_form (codes "cut") ∷ count_form (codes "held") ∷ []) _ _ _ _ _ _
     c.in_ok-name.ensures.ok
     (follows_both (count_form (codes "made") ∷ []) (count_form (codes "cut") ∷ count_form (codes "held") ∷ []) _ _ _ _ _ _ c.in_ok-made.ensures.ok

@@ -6,14 +6,14 @@ use Rattle.sem_report.specs.ReportRanges.{HeldFits}
 use Rattle.sem_journal.specs.ReportText.{held_line}
 use Rattle.sem_report.specs.WholeLines.{whole_lines}
 use Rattle.sem_report.specs.ReportRefusal.{held_form}
-use Rattle.sem_report.specs.ReadsReport.{Follows}
+use Rattle.sem_report.specs.ReadsReport.{HaveForms}
 use Rattle.sem_report.proofs.report_reader.Lines.held_keys.Given as goal
 
 -- the lines so far are those of keys, and these are in the list
 abbrev pub invariant-loop : goal.invariant-loop
 invariant-loop l = record {
   room : l.self.number + length l.self.rest.now ≤ 1000000000;
-  follows : Follows (replicate l.counter (held_form l.version)) (l.initial.self.number + 1) (whole_lines l.initial.self.rest.now) (l.self.number + 1)
+  follows : HaveForms (replicate l.counter (held_form l.version)) (l.initial.self.number + 1) (whole_lines l.initial.self.rest.now) (l.self.number + 1)
       (whole_lines l.self.rest.now);
   read : l.initial.self.rest.now ≡ text (map held_line (held_pairs l.keys)) ++ l.self.rest.now;
   count : length l.keys ≡ l.counter;

@@ -1,10 +1,6 @@
--- The setups and journals that a law holds for.
+-- What a law holds for, if not every schedule of every setup.
 use Rattle.std.specs.Prelude.{◌≡◌, List}
 use Rattle.sem_machine.specs.Prelude.{Entry, Setup, IsSetup, IsSchedule}
-
--- after every schedule of every setup
-abbrev pub Always : (Setup → List Entry → Type 0) → Type 0
-Always P = (T : Setup) → IsSetup T → (J : List Entry) → IsSchedule T J → P T J
 
 -- for every journal, whether or not it is a schedule
 abbrev pub ForEveryJournal : (Setup → List Entry → Type 0) → Type 0

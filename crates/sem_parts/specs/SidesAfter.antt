@@ -31,7 +31,7 @@ world_with sides f = record { sides = sides; links = f.links; replies = length (
 
 -- the sides are those of all kernels of the setup, in order; the part of each runs to its side, and
 -- the fabric agrees with its journal
-pub record StandAt (T : Setup) (sides : List Side) (f : FabricValue) : Type 0 where
+pub record AreSidesAfter (T : Setup) (sides : List Side) (f : FabricValue) : Type 0 where
   pub count : length sides ≡ T.kernels
   pub square : IsSquare T.kernels f.links
   pub fabric : FabricAgrees T f
