@@ -3,9 +3,7 @@ ghost use Rattle.sem_key.specs.CapList.{cap_of};
 ghost use Rattle.sem_msg.specs.declared.entry.Consent.TheVariants.{Yes};
 ghost use Rattle.sem_msg.specs.declared.state.Ask.TheVariants.{Delegate as DelegateAsk};
 ghost use Rattle.sem_msg.specs.Lookups.{is_declared, kernel_of as kernel_of_lem};
-ghost use Rattle.sem_msg.specs.ParkedStates.{state_of};
 ghost use Rattle.sem_vpe.specs.VpeTable.{IsOurs};
-ghost use Rattle.sem_machine.specs.Asks.{is_delegate_wait};
 ghost use Rattle.sem_machine.specs.Sides.{Side, no_side};
 ghost use Rattle.sem_machine.specs.Steps.{asking, first_code};
 ghost use Rattle.sem_machine.specs.Calls.{destination_tests};
@@ -17,21 +15,10 @@ use crate::answers::end_waiting;
 use crate::keys::draw_key;
 use crate::refusals::consent_refusal;
 use sem_caps::Caps;
-use sem_key::{Key, Object, same_key};
+use sem_key::{Key, Object};
 use sem_msg::{Code, Consent, Outcome, Parked, Setup};
 use sem_park::Park;
 use sem_vpe::Vpes;
-
-// Whether a delegate of the capability waits.
-fn is_awaited(park: &Park, parent: Key) -> bool
-    ensures { result ≡ is_delegate_wait parent (state_of park.now parent.vpe) }
-{
-    let state = park.state(parent.vpe);
-    match &state {
-        Some(Parked::DelegateWait { parent: offered }) => same_key(offered, &parent),
-        _ => false,
-    }
-}
 
 // The VPE decides on an offer of a VPE of the same kernel.
 pub fn decide_here(
@@ -59,7 +46,7 @@ pub fn decide_here(
     ensures spare { caps.old.spare ≤ caps.new.spare + 1 }
 {
     let asker = parent.vpe;
-    if !is_awaited(park, parent) {
+    if !park.is_delegate_wait(parent) {
         return Outcome::asked(asker, Consent::Dropped, None);
     }
     if setup.denies(vpe, asker) {

@@ -2,11 +2,12 @@
 use Rattle.std.specs.Prelude.{◌≡◌, ℕ, ◌+◌, ◌*◌, ◌<◌, ◌≤◌, Bool, true, false, List, length, sum_by, is_none}
 use Rattle.std.specs.Prelude.{if◌then◌else◌, vec_capacity, slice_get, Option, Some, None}
 use Rattle.std.specs.Option.{option_map, option_map_or, option_and_then}
-use Rattle.sem_machine.specs.Prelude.{KeyName, Capability, Call, Derive, Gate, Revoke, Exit, Clear, Act, Calls, Fetch}
-use Rattle.sem_machine.specs.Prelude.{Handle, Upcall, Resume, Flush, Kill, Message, RevokeReq, Ask, ObtainAsk}
+use Rattle.sem_machine.specs.Prelude.{KeyName, Capability, Call, Derive, Gate, Revoke, Exit, Clear, Act, Calls}
+use Rattle.sem_machine.specs.Prelude.{Handle, Upcall, Resume, Kill, Message, RevokeReq, Ask, ObtainAsk}
 use Rattle.sem_machine.specs.Prelude.{DelegateAsk, Parked, DelegateReady, Setup, Side}
 use Rattle.sem_machine.specs.Prelude.{row, slot, parked}
 use Rattle.sem_key.specs.CapList.{link_count}
+pub use Rattle.sem_msg.specs.Act.{only_moves}
 use Rattle.sem_caps.specs.CapStore.{held_key}
 use Rattle.sem_vpe.specs.VpeTable.{slot_key}
 use Rattle.sem_machine.specs.Upcalls.{source}
@@ -109,12 +110,6 @@ pub record HasGrown (x y : Stores) : Type 0 where
   pub links : vec_capacity x.scratch.links ≤ vec_capacity y.scratch.links
   pub gone : vec_capacity x.scratch.gone ≤ vec_capacity y.scratch.gone
   pub ended : vec_capacity x.ended ≤ vec_capacity y.ended
-
--- whether an act only moves a message, which needs no room
-abbrev pub only_moves : Act → Bool
-only_moves (Fetch from) = true
-only_moves (Flush to) = true
-only_moves act = false
 
 -- room for all that the step of an act can need
 pub record IsReady (T : Setup) (act : Act) (x : Stores) : Type 0 where

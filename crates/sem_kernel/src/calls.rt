@@ -29,16 +29,8 @@ impl Stores {
         ensures { HasCalled setup.now kernel self.new result
             (gate_row setup.now (side_of self.old) vpe src dst label credits) }
     {
-        gate_call(
-            setup,
-            vpe,
-            src,
-            dst,
-            label,
-            credits,
-            &mut self.caps,
-            &mut self.vpes,
-        )
+        let Stores { caps, vpes, .. } = self;
+        gate_call(setup, vpe, src, dst, label, credits, caps, vpes)
     }
 
     pub fn obtain(
@@ -55,17 +47,13 @@ impl Stores {
         ensures { HasCalled setup.now kernel self.new result
             (obtain_row setup.now kernel (side_of self.old) vpe dst other src) }
     {
-        obtain_call(
-            setup,
-            kernel,
-            vpe,
-            dst,
-            other,
-            src,
-            &mut self.vpes,
-            &mut self.park,
-            &mut self.outs,
-        )
+        let Stores {
+            vpes,
+            park,
+            outs,
+            ..
+        } = self;
+        obtain_call(setup, kernel, vpe, dst, other, src, vpes, park, outs)
     }
 
     pub fn open(&mut self, setup: &Setup, kernel: u32, vpe: u16, dst: u8, name: u8) -> Outcome
@@ -74,16 +62,13 @@ impl Stores {
         ensures { HasCalled setup.now kernel self.new result
             (open_row setup.now kernel (side_of self.old) vpe dst name) }
     {
-        open_call(
-            setup,
-            kernel,
-            vpe,
-            dst,
-            name,
-            &mut self.vpes,
-            &mut self.park,
-            &mut self.outs,
-        )
+        let Stores {
+            vpes,
+            park,
+            outs,
+            ..
+        } = self;
+        open_call(setup, kernel, vpe, dst, name, vpes, park, outs)
     }
 
     pub fn ask(
@@ -100,17 +85,15 @@ impl Stores {
         ensures { HasCalled setup.now kernel self.new result
             (offer_row setup.now kernel (side_of self.old) vpe dst session index) }
     {
+        let Stores {
+            caps,
+            vpes,
+            park,
+            outs,
+            ..
+        } = self;
         offer_call(
-            setup,
-            kernel,
-            vpe,
-            dst,
-            session,
-            index,
-            &self.caps,
-            &mut self.vpes,
-            &mut self.park,
-            &mut self.outs,
+            setup, kernel, vpe, dst, session, index, caps, vpes, park, outs,
         )
     }
 
@@ -128,17 +111,13 @@ impl Stores {
         ensures { HasCalled setup.now kernel self.new result
             (delegate_row setup.now kernel (side_of self.old) vpe src other dst) }
     {
-        delegate_call(
-            setup,
-            kernel,
-            vpe,
-            src,
-            other,
-            dst,
-            &self.caps,
-            &mut self.vpes,
-            &mut self.park,
-            &mut self.outs,
-        )
+        let Stores {
+            caps,
+            vpes,
+            park,
+            outs,
+            ..
+        } = self;
+        delegate_call(setup, kernel, vpe, src, other, dst, caps, vpes, park, outs)
     }
 }

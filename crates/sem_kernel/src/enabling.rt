@@ -1,10 +1,8 @@
 // Which acts of a kernel are enabled, as far as its stores tell.
 ghost use Rattle.std.specs.Prelude.{◌≡◌, true, is_some, slice_get, length};
 ghost use Rattle.std.specs.Option.{option_map};
-ghost use Rattle.sem_msg.specs.Journal.{kill_number as kill_number_lem};
 ghost use Rattle.sem_msg.specs.Lookups.{kernel_of as kernel_of_lem, calls_of};
 ghost use Rattle.sem_machine.specs.Machine.{is_locally_enabled};
-ghost use Rattle.sem_machine.specs.Machine.{is_other_kernel as is_other_kernel_lem};
 ghost use Rattle.sem_machine.specs.Machine.{next_call as next_call_lem};
 ghost use Rattle.sem_machine.specs.Resumes.{can_resume as can_resume_lem};
 ghost use Rattle.sem_machine.specs.Sides.{is_alive, outbox, parked, row};
@@ -46,14 +44,14 @@ impl Stores {
                     && self.vpes.front_ask(vpe).is_some()
             }
             Act::Handle => self.inbox.is_some(),
-            Act::Fetch { from } => { is_other_kernel(setup, kernel, from) && self.inbox.is_none() }
+            Act::Fetch { from } => { setup.is_other_kernel(kernel, from) && self.inbox.is_none() }
             Act::Flush { to } => {
-                is_other_kernel(setup, kernel, to) && self.outs.front(to).is_some()
+                setup.is_other_kernel(kernel, to) && self.outs.front(to).is_some()
             }
             Act::Kill { vpe } => {
                 setup.kernel_of(vpe) == kernel
                     && self.vpes.alive(vpe)
-                    && kill_number(setup, vpe).is_some()
+                    && setup.kill_number(vpe).is_some()
             }
         }
     }
@@ -106,13 +104,6 @@ impl Stores {
     }
 }
 
-// Whether the other one is another kernel of the setup.
-fn is_other_kernel(setup: &Setup, kernel: u32, other: u32) -> bool
-    ensures { result ≡ is_other_kernel_lem setup.now kernel other }
-{
-    other < setup.kernels && other != kernel
-}
-
 // Whether a call in that state can go on.
 fn can_resume(state: &Option<Parked>) -> bool
     ensures { result ≡ can_resume_lem state.now }
@@ -126,12 +117,4 @@ fn can_resume(state: &Option<Parked>) -> bool
                 | Parked::Ready { .. }
         )
     )
-}
-
-// After how many replies the VPE is killed, if ever.
-pub fn kill_number(setup: &Setup, vpe: u16) -> Option<u64>
-    ensures { result ≡ kill_number_lem setup.now vpe }
-{
-    let kill = setup.kills.as_slice().iter().find(|kill| kill.0 == vpe)?;
-    Some(kill.1)
 }

@@ -23,15 +23,14 @@ impl Stores {
         ensures row { side_of self.new ≡ ended setup.now kernel vpe (side_of self.old) }
         ensures stores { AreStoresOf setup.now kernel self.new }
     {
-        end_vpe(
-            setup,
-            kernel,
-            vpe,
-            &mut self.vpes,
-            &mut self.jobs,
-            &mut self.park,
-            &mut self.outs,
-        );
+        let Stores {
+            vpes,
+            park,
+            jobs,
+            outs,
+            ..
+        } = self;
+        end_vpe(setup, kernel, vpe, vpes, jobs, park, outs);
         self.ended.clear();
         self.caps.append_keys_of(vpe, &mut self.ended);
         self.revoke_ended(setup, kernel);
@@ -63,17 +62,16 @@ impl Stores {
         if !self.is_unmarked(key) {
             return;
         }
+        let Stores {
+            caps,
+            dtus,
+            jobs,
+            outs,
+            scratch,
+            ..
+        } = self;
         let done = begin_revoke(
-            setup,
-            kernel,
-            key,
-            None,
-            None,
-            &mut self.caps,
-            &mut self.dtus,
-            &mut self.jobs,
-            &mut self.outs,
-            &mut self.scratch,
+            setup, kernel, key, None, None, caps, dtus, jobs, outs, scratch,
         );
         self.finish(setup, kernel, done);
     }

@@ -25,16 +25,13 @@ impl Stores {
         ensures { (from : ℕ) →
             HasHandled setup.now kernel from self.old self.new (ObtainOk parent key object) }
     {
-        obtain_answer(
-            setup,
-            kernel,
-            parent,
-            key,
-            object,
-            &self.vpes,
-            &mut self.park,
-            &mut self.outs,
-        );
+        let Stores {
+            vpes,
+            park,
+            outs,
+            ..
+        } = self;
+        obtain_answer(setup, kernel, parent, key, object, vpes, park, outs);
     }
 
     // A VPE of another kernel delegates.
@@ -52,16 +49,8 @@ impl Stores {
         ensures { (from : ℕ) →
             HasHandled setup.now kernel from self.old self.new (DelegateReq parent object vpe sel) }
     {
-        delegate_request(
-            setup,
-            kernel,
-            parent,
-            object,
-            vpe,
-            sel,
-            &mut self.vpes,
-            &mut self.outs,
-        );
+        let Stores { vpes, outs, .. } = self;
+        delegate_request(setup, kernel, parent, object, vpe, sel, vpes, outs);
     }
 
     // A delegate is accepted.
@@ -71,15 +60,13 @@ impl Stores {
         ensures { (from : ℕ) →
             HasHandled setup.now kernel from self.old self.new (DelegatePrepared parent key) }
     {
-        delegate_prepared(
-            setup,
-            kernel,
-            parent,
-            key,
-            &self.vpes,
-            &mut self.park,
-            &mut self.outs,
-        );
+        let Stores {
+            vpes,
+            park,
+            outs,
+            ..
+        } = self;
+        delegate_prepared(setup, kernel, parent, key, vpes, park, outs);
     }
 
     // A pending delegation is acknowledged.
@@ -90,15 +77,13 @@ impl Stores {
         ensures { (from : ℕ) →
             HasHandled setup.now kernel from self.old self.new (Ack key yes) }
     {
-        ack(
-            setup,
-            kernel,
-            key,
-            yes,
-            &mut self.caps,
-            &mut self.vpes,
-            &mut self.pendings,
-            &mut self.outs,
-        );
+        let Stores {
+            caps,
+            vpes,
+            pendings,
+            outs,
+            ..
+        } = self;
+        ack(setup, kernel, key, yes, caps, vpes, pendings, outs);
     }
 }

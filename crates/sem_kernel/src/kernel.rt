@@ -3,17 +3,16 @@ ghost use Rattle.std.specs.Prelude.{is_some, option_copied, IfOk, OnOk, OnErr};
 ghost use Rattle.std.specs.List.{Contains};
 ghost use Rattle.std.specs.Option.{option_map};
 ghost use Rattle.sem_key.specs.Capability.{capability_of};
-ghost use Rattle.sem_msg.specs.Fabric.{is_due as is_due_lem};
 ghost use Rattle.sem_msg.specs.Lookups.{kernel_of};
 ghost use Rattle.sem_msg.specs.Masks.{IsMaskOf};
 ghost use Rattle.sem_machine.specs.Sides.{is_alive, endpoint, cap, parked as parked_of, outbox};
 ghost use Rattle.sem_machine.specs.Machine.{start_side, is_locally_enabled, local_step};
-ghost use Rattle.sem_machine.specs.Machine.{local_entry, replied_vpe as replied_vpe_lem};
+ghost use Rattle.sem_machine.specs.Machine.{local_entry, replied_vpe};
 ghost use Rattle.sem_kernel.specs.KernelValue.{is_timely as is_timely_lem, IsInput};
 ghost use Rattle.sem_kernel.specs.Listing.{AreVpeActs};
 ghost use Rattle.sem_kernel.specs.Owning.{own_rows};
 
-use crate::enabling::{VpeActs, kill_number};
+use crate::enabling::VpeActs;
 use crate::own::{OwnVpe, own_vpes};
 use crate::shared::SharedSetup;
 use crate::stores::Stores;
@@ -249,7 +248,10 @@ impl Kernel {
             detail,
             grant: outcome.grant,
             cut: outcome.cut,
-            reply: reply_of(act, outcome.reply),
+            reply: outcome.reply.map(|code| Reply {
+                vpe: act.replied_vpe(),
+                code,
+            }),
         }
     }
 }
@@ -259,41 +261,7 @@ fn is_timely(setup: &Setup, replies: u64, act: Act) -> bool
     ensures { result ≡ is_timely_lem setup.now replies act }
 {
     match act {
-        Act::Kill { vpe } => is_due(setup, replies, vpe),
+        Act::Kill { vpe } => setup.is_due(replies, vpe),
         _ => true,
-    }
-}
-
-// Whether the VPE is due to be killed after that many replies.
-fn is_due(setup: &Setup, replies: u64, vpe: u16) -> bool
-    ensures { result ≡ is_due_lem setup.now replies vpe }
-{
-    match kill_number(setup, vpe) {
-        Some(number) => number <= replies,
-        None => false,
-    }
-}
-
-// The reply with that code to the VPE whose call the act answers.
-fn reply_of(act: Act, code: Option<u8>) -> Option<Reply>
-    ensures { result ≡ option_map (λ n. record { vpe = replied_vpe_lem act; code = n }) code }
-{
-    match code {
-        Some(code) => Some(Reply {
-            vpe: replied_vpe(act),
-            code,
-        }),
-        None => None,
-    }
-}
-
-// The VPE whose call the act answers.
-fn replied_vpe(act: Act) -> u16
-    ensures { result ≡ replied_vpe_lem act }
-{
-    match act {
-        Act::Call { vpe } => vpe,
-        Act::Resume { vpe } => vpe,
-        _ => 0,
     }
 }

@@ -87,12 +87,7 @@ impl Stores {
             (answer OkCode (ended setup.now kernel vpe (side_of self.old))) }
     {
         self.end(setup, kernel, vpe);
-        Outcome {
-            asked: None,
-            grant: None,
-            cut: None,
-            reply: Some(Code::Ok.number()),
-        }
+        Outcome::answered(Code::Ok)
     }
 
     // Handles the message of kernel `from`, unless it is a stray.
@@ -121,14 +116,8 @@ impl Stores {
     {
         match message {
             Message::ObtainReq { place, target } => {
-                obtain_request(
-                    setup,
-                    kernel,
-                    *place,
-                    *target,
-                    &mut self.vpes,
-                    &mut self.outs,
-                );
+                let Stores { vpes, outs, .. } = self;
+                obtain_request(setup, kernel, *place, *target, vpes, outs);
             }
             Message::ObtainOk {
                 parent,

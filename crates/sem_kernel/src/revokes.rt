@@ -27,18 +27,18 @@ impl Stores {
         ensures { HasCalled setup.now kernel self.new result
             (revoke_row setup.now kernel (side_of self.old) vpe src) }
     {
+        let Stores {
+            caps,
+            vpes,
+            dtus,
+            park,
+            jobs,
+            outs,
+            scratch,
+            ..
+        } = self;
         let (outcome, done) = revoke_call(
-            setup,
-            kernel,
-            vpe,
-            src,
-            &mut self.caps,
-            &self.vpes,
-            &mut self.dtus,
-            &mut self.jobs,
-            &mut self.park,
-            &mut self.outs,
-            &mut self.scratch,
+            setup, kernel, vpe, src, caps, vpes, dtus, jobs, park, outs, scratch,
         );
         self.finish(setup, kernel, done);
         outcome
@@ -53,18 +53,18 @@ impl Stores {
         ensures { HasCalled setup.now kernel self.new result
             (clear_row setup.now kernel (side_of self.old) vpe src) }
     {
+        let Stores {
+            caps,
+            vpes,
+            dtus,
+            park,
+            jobs,
+            outs,
+            scratch,
+            ..
+        } = self;
         let (outcome, done) = clear_call(
-            setup,
-            kernel,
-            vpe,
-            src,
-            &mut self.caps,
-            &self.vpes,
-            &mut self.dtus,
-            &mut self.jobs,
-            &mut self.park,
-            &mut self.outs,
-            &mut self.scratch,
+            setup, kernel, vpe, src, caps, vpes, dtus, jobs, park, outs, scratch,
         );
         self.finish(setup, kernel, done);
         outcome
@@ -79,19 +79,18 @@ impl Stores {
         requires room { HasRoomToRevoke 0 self.old }
         ensures { HasHandled setup.now kernel from self.old self.new (RevokeReq key job) }
     {
+        let Stores {
+            caps,
+            vpes,
+            dtus,
+            park,
+            jobs,
+            outs,
+            scratch,
+            ..
+        } = self;
         let done = revoke_request(
-            setup,
-            kernel,
-            from,
-            key,
-            job,
-            &mut self.caps,
-            &mut self.vpes,
-            &mut self.dtus,
-            &mut self.jobs,
-            &mut self.park,
-            &mut self.outs,
-            &mut self.scratch,
+            setup, kernel, from, key, job, caps, vpes, dtus, jobs, park, outs, scratch,
         );
         self.finish(setup, kernel, done);
     }
@@ -129,17 +128,16 @@ impl Stores {
         ensures ended { self.new.ended ≡ self.old.ended }
     {
         if let Some(job) = job {
-            sweep(
-                setup,
-                kernel,
-                job,
-                &mut self.caps,
-                &mut self.vpes,
-                &mut self.jobs,
-                &mut self.park,
-                &mut self.outs,
-                &mut self.scratch,
-            );
+            let Stores {
+                caps,
+                vpes,
+                park,
+                jobs,
+                outs,
+                scratch,
+                ..
+            } = self;
+            sweep(setup, kernel, job, caps, vpes, jobs, park, outs, scratch);
         }
     }
 }

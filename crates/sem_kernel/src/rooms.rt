@@ -8,13 +8,8 @@ ghost use Rattle.sem_machine.specs.Sides.{parked, row};
 ghost use Rattle.sem_kernel.specs.KernelStores.{side_of, AreStoresOf, AreSound};
 ghost use Rattle.sem_kernel.specs.Rooms.{IsReady, HasGrown, HasSameStores, HasRoomToRevoke};
 ghost use Rattle.sem_kernel.specs.Rooms.{asked_parent as asked_parent_lem};
-ghost use Rattle.sem_kernel.specs.Rooms.{called_parent as called_parent_lem};
-ghost use Rattle.sem_kernel.specs.Rooms.{resumed_parent as resumed_parent_lem};
 ghost use Rattle.sem_kernel.specs.Rooms.{linked_parent as linked_parent_lem};
 ghost use Rattle.sem_kernel.specs.Rooms.{opens_jobs as opens_jobs_lem};
-ghost use Rattle.sem_kernel.specs.Rooms.{is_revoking as is_revoking_lem};
-ghost use Rattle.sem_kernel.specs.Rooms.{only_moves as only_moves_lem};
-ghost use Rattle.sem_kernel.specs.Rooms.{is_request as is_request_lem};
 ghost use Rattle.sem_kernel.specs.Rooms.{ended_asks as ended_asks_lem};
 
 use crate::stores::Stores;
@@ -32,7 +27,7 @@ impl Stores {
         ensures ready { OnOk result (IsReady setup.now act self.new) }
         ensures kept { OnErr result (HasGrown self.old self.new) }
     {
-        if only_moves(act) {
+        if act.only_moves() {
             return Ok(());
         }
         let parent = self.linked_parent(setup, kernel, act);
@@ -93,25 +88,19 @@ impl Stores {
         ensures { result ≡ linked_parent_lem setup.now (side_of self.now) act }
     {
         match act {
-            Act::Call { vpe } => {
-                let call = self.next_call(setup, kernel, vpe)?;
-                self.called_parent(setup, kernel, vpe, call)
-            }
+            Act::Call { vpe } => match self.next_call(setup, kernel, vpe)? {
+                Call::Derive { src, .. } | Call::Gate { src, .. } => self.vpes.held_key(vpe, src),
+                _ => None,
+            },
             Act::Upcall { vpe } => self.asked_parent(setup, kernel, vpe),
-            Act::Resume { vpe } => resumed_parent(&self.park.state(vpe)),
+            Act::Resume { vpe } => {
+                let state = self.park.state(vpe);
+                match &state {
+                    Some(Parked::DelegateReady { parent, .. }) => Some(*parent),
+                    _ => None,
+                }
+            }
             Act::Fetch { .. } | Act::Handle | Act::Flush { .. } | Act::Kill { .. } => None,
-        }
-    }
-
-    // The capability that a call may link a child to.
-    fn called_parent(&self, setup: &Setup, kernel: u32, vpe: u16, call: Call) -> Option<Key>
-        requires stores { AreStoresOf setup.now kernel self.now }
-        requires here { kernel_of_lem setup.now vpe ≡ kernel }
-        ensures { result ≡ called_parent_lem (side_of self.now) vpe call }
-    {
-        match call {
-            Call::Derive { src, .. } | Call::Gate { src, .. } => self.vpes.held_key(vpe, src),
-            _ => None,
         }
     }
 
@@ -142,14 +131,11 @@ impl Stores {
         ensures { result ≡ opens_jobs_lem setup.now (side_of self.now) act }
     {
         match act {
-            Act::Call { vpe } => match self.next_call(setup, kernel, vpe) {
-                Some(call) => is_revoking(call),
-                None => false,
-            },
-            Act::Handle => match &self.inbox {
-                Some((_, message)) => is_request(message),
-                None => false,
-            },
+            Act::Call { vpe } => matches!(
+                self.next_call(setup, kernel, vpe),
+                Some(Call::Revoke { .. } | Call::Clear { .. } | Call::Exit)
+            ),
+            Act::Handle => matches!(self.inbox, Some((_, Message::RevokeReq { .. }))),
             Act::Kill { .. } => true,
             Act::Fetch { .. } | Act::Upcall { .. } | Act::Resume { .. } | Act::Flush { .. } =>
                 false,
@@ -168,36 +154,5 @@ impl Stores {
             Act::Kill { vpe } => self.vpes.asks(vpe),
             _ => 0,
         }
-    }
-}
-
-// Whether the act only moves a message.
-fn only_moves(act: Act) -> bool
-    ensures { result ≡ only_moves_lem act }
-{
-    matches!(act, Act::Fetch { .. } | Act::Flush { .. })
-}
-
-// Whether the call may open jobs.
-fn is_revoking(call: Call) -> bool
-    ensures { result ≡ is_revoking_lem call }
-{
-    matches!(call, Call::Revoke { .. } | Call::Clear { .. } | Call::Exit)
-}
-
-// Whether the message may open jobs.
-fn is_request(message: &Message) -> bool
-    ensures { result ≡ is_request_lem message.now }
-{
-    matches!(message, Message::RevokeReq { .. })
-}
-
-// The capability that a call in that state may link a child to.
-fn resumed_parent(state: &Option<Parked>) -> Option<Key>
-    ensures { result ≡ resumed_parent_lem state.now }
-{
-    match state {
-        Some(Parked::DelegateReady { parent, .. }) => Some(*parent),
-        _ => None,
     }
 }

@@ -27,18 +27,18 @@ impl Stores {
             (upcall_row setup.now kernel (side_of self.old) vpe) }
     {
         let ask = self.vpes.next_ask(vpe);
+        let Stores {
+            caps,
+            vpes,
+            park,
+            pendings,
+            outs,
+            ..
+        } = self;
         match &ask {
-            Some(Ask::Obtain { place, target }) => obtain_upcall(
-                setup,
-                kernel,
-                vpe,
-                *place,
-                *target,
-                &mut self.caps,
-                &mut self.vpes,
-                &mut self.park,
-                &mut self.outs,
-            ),
+            Some(Ask::Obtain { place, target }) => {
+                obtain_upcall(setup, kernel, vpe, *place, *target, caps, vpes, park, outs)
+            }
             Some(
                 Ask::Delegate {
                     parent,
@@ -46,17 +46,7 @@ impl Stores {
                     sel,
                 },
             ) => delegate_upcall(
-                setup,
-                kernel,
-                vpe,
-                *parent,
-                *object,
-                *sel,
-                &mut self.caps,
-                &mut self.vpes,
-                &mut self.park,
-                &mut self.pendings,
-                &mut self.outs,
+                setup, kernel, vpe, *parent, *object, *sel, caps, vpes, park, pendings, outs,
             ),
             None => unreachable!(),
         }

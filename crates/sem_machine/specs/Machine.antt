@@ -20,6 +20,8 @@ use Rattle.sem_msg.specs.Fabric.{link_in, link_put, is_due}
 use Rattle.sem_msg.specs.VpeRows.{new_vpe, next_root, root_held}
 use Rattle.sem_msg.specs.EndpointRows.{no_endpoint_bound}
 use Rattle.sem_msg.specs.Journal.{kill_number}
+pub use Rattle.sem_msg.specs.Act.{replied_vpe}
+pub use Rattle.sem_msg.specs.Lookups.{is_other_kernel}
 use Rattle.sem_msg.specs.Lookups.{own_vpes}
 use Rattle.sem_msg.specs.declared.entry.Outcome.{Outcome}
 use Rattle.sem_machine.specs.Sides.{Side, no_side, row, parked, outbox, is_alive, with_row, call_counted, cap_added}
@@ -118,12 +120,6 @@ detail_of T s (Resume v) input o = Nothing
 detail_of T s (Flush to) input o = option_map_or (λ m. Carried to m) (slice_get (outbox s to) 0) Nothing
 detail_of T s (Kill v) input o = Nothing
 
--- the VPE whose call an act answers
-abbrev pub replied_vpe : Act → ℕ
-replied_vpe (Calls v) = v
-replied_vpe (Resume v) = v
-replied_vpe act = 0
-
 -- the entry that an act of kernel i makes
 unfoldable pub local_entry : Setup → ℕ → Side → Act → Option Message → Entry
 local_entry T i s act input =
@@ -137,9 +133,6 @@ local_entry T i s act input =
     }
 
 -- Which acts are enabled.
-
-abbrev pub is_other_kernel : Setup → ℕ → ℕ → Bool
-is_other_kernel T i j = nat_lt j T.kernels && not (j == i)
 
 -- whether an act of kernel i is enabled as far as its side tells, leaving out the links and the
 -- replies

@@ -1,10 +1,11 @@
 -- What the calls need from the stores.
-use Rattle.std.specs.Prelude.{◌<◌, ◌≤◌, List, length, All, Option, vec_capacity}
-use Rattle.sem_machine.specs.Prelude.{KeyName, Capability, Parked, Setup, owner_of, OutboxList, Side, with_caps}
+use Rattle.std.specs.Prelude.{◌≡◌, ℕ, ◌+◌, ◌<◌, ◌≤◌, List, length, All, Option, vec_capacity}
+use Rattle.sem_machine.specs.Prelude.{KeyName, Capability, Parked, Setup, kernel_of, owner_of, OutboxList, Side, with_caps}
 use Rattle.sem_machine.specs.Prelude.{with_vpes, with_parks, with_outs}
 use Rattle.sem_key.specs.CapList.{link_count}
+use Rattle.sem_msg.specs.Outboxes.{HasBoxes}
 use Rattle.sem_caps.specs.CapStore.{CapStore}
-use Rattle.sem_vpe.specs.VpeTable.{VpeTable}
+use Rattle.sem_vpe.specs.VpeTable.{VpeTable, AreOurs}
 use Rattle.sem_dtu.specs.EndpointTable.{EndpointTable}
 use Rattle.sem_jobs.specs.JobStore.{JobStore}
 use Rattle.sem_jobs.specs.declared.scratch.Scratch.{Scratch}
@@ -44,3 +45,26 @@ LeadsHome T c = All (HasOwner T) c.children
 pub record HasSpace (caps : CapStore) (scratch : Scratch) : Type 0 where
   pub keys : length caps.caps ≤ vec_capacity scratch.keys
   pub links : link_count caps.caps ≤ vec_capacity scratch.links
+
+-- A call of VPE v that begins a job: the VPE is one of kernel i, and a job, its id, its messages and
+-- its working space have room.
+pub record CanBegin (T : Setup) (i v : ℕ) (caps : CapStore) (vpes : VpeTable) (jobs : JobStore) (outs : OutboxList)
+    (scratch : Scratch) : Type 0 where
+  pub home : AreOurs T i vpes
+  pub vpe : kernel_of T v ≡ i
+  pub job : 0 < jobs.spare
+  pub ids : jobs.next < 4294967295
+  pub boxes : HasBoxes T outs
+  pub owners : All (LeadsHome T) caps.caps
+  pub spare : link_count caps.caps ≤ outs.spare
+  pub space : HasSpace caps scratch
+
+-- what such a call leaves of the room: it takes at most a job and a message for each child link
+pub record HasRoomLeft (T : Setup) (caps : CapStore) (jobs : JobStore) (outs : OutboxList) (scratch : Scratch)
+    (caps_after : CapStore) (jobs_after : JobStore) (outs_after : OutboxList) (scratch_after : Scratch) : Type 0 where
+  pub boxes : HasBoxes T outs_after
+  pub spare : outs.spare ≤ outs_after.spare + link_count caps.caps
+  pub job_spare : jobs.spare ≤ jobs_after.spare + 1
+  pub caps_spare : caps_after.spare ≡ caps.spare
+  pub space : HasSpace caps_after scratch_after
+  pub gone : vec_capacity scratch_after.gone ≡ vec_capacity scratch.gone

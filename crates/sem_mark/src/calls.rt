@@ -5,13 +5,12 @@ ghost use Rattle.sem_key.specs.Capability.{Capability};
 ghost use Rattle.sem_key.specs.CapList.{link_count};
 ghost use Rattle.sem_msg.specs.declared.state.Parked.TheVariants.{RevokeWait};
 ghost use Rattle.sem_msg.specs.JobRows.{job_of};
-ghost use Rattle.sem_msg.specs.Lookups.{kernel_of as kernel_of_lem};
 ghost use Rattle.sem_msg.specs.Outboxes.{HasBoxes};
-ghost use Rattle.sem_vpe.specs.VpeTable.{AreOurs};
 ghost use Rattle.sem_machine.specs.Sides.{Side, no_side, own, parked_as};
 ghost use Rattle.sem_machine.specs.Calls.{clear_row, revoke_row};
 ghost use Rattle.sem_machine.specs.Revokes.{begin, finished, opened};
-ghost use Rattle.sem_mark.specs.Marking.{HasSpace, LeadsHome, owning, pausing, revoking};
+ghost use Rattle.sem_mark.specs.Marking.{CanBegin, HasRoomLeft, HasSpace, LeadsHome};
+ghost use Rattle.sem_mark.specs.Marking.{owning, pausing, revoking};
 
 use crate::opening::{done_job, open_job};
 use crate::owned::own_refusal;
@@ -39,16 +38,9 @@ pub fn revoke_call(
     outs: &mut Outboxes,
     scratch: &mut Scratch,
 ) -> (Outcome, Option<u32>)
-    requires home { AreOurs setup.now kernel vpes.now }
-    requires vpe { kernel_of_lem setup.now vpe ≡ kernel }
+    requires can { CanBegin setup.now kernel vpe caps.old vpes.now jobs.old outs.old scratch.old }
     requires marker { IfSome (own (owning caps.old vpes.now no_side) vpe sel)
         (λ c. IfSome c.mark (λ j. IsSome (job_of jobs.old.jobs j))) }
-    requires job { 0 < jobs.old.spare }
-    requires ids { jobs.old.next < 4294967295 }
-    requires boxes { HasBoxes setup.now outs.old }
-    requires owners { All (LeadsHome setup.now) caps.old.caps }
-    requires spare { link_count caps.old.caps ≤ outs.old.spare }
-    requires space { HasSpace caps.old scratch.old }
     ensures row { (s : Side) →
         record {
           side = finished setup.now kernel result.1
@@ -67,13 +59,9 @@ pub fn revoke_call(
         IsSomeAnd (own (owning caps.old vpes.now no_side) vpe sel) (λ c. c.mark ≡ None) }
     ensures there { IfSome result.1 (λ j. IsSome (job_of jobs.new.jobs j)) }
     ensures done { IfSome result.1 (λ j. (j ≡ jobs.old.next)) }
-    ensures boxes { HasBoxes setup.now outs.new }
-    ensures spare { outs.old.spare ≤ outs.new.spare + link_count caps.old.caps }
-    ensures job_spare { jobs.old.spare ≤ jobs.new.spare + 1 }
-    ensures caps_spare { caps.new.spare ≡ caps.old.spare }
+    ensures left { HasRoomLeft setup.now caps.old jobs.old outs.old scratch.old
+        caps.new jobs.new outs.new scratch.new }
     ensures dtus { dtus.new.ours ≡ dtus.old.ours }
-    ensures space { HasSpace caps.new scratch.new }
-    ensures gone { vec_capacity scratch.new.gone ≡ vec_capacity scratch.old.gone }
 {
     // Shows the proof that the VPE has a place.
     let _ = vpes.alive(vpe);
@@ -108,14 +96,7 @@ pub fn clear_call(
     outs: &mut Outboxes,
     scratch: &mut Scratch,
 ) -> (Outcome, Option<u32>)
-    requires home { AreOurs setup.now kernel vpes.now }
-    requires vpe { kernel_of_lem setup.now vpe ≡ kernel }
-    requires job { 0 < jobs.old.spare }
-    requires ids { jobs.old.next < 4294967295 }
-    requires boxes { HasBoxes setup.now outs.old }
-    requires owners { All (LeadsHome setup.now) caps.old.caps }
-    requires spare { link_count caps.old.caps ≤ outs.old.spare }
-    requires space { HasSpace caps.old scratch.old }
+    requires { CanBegin setup.now kernel vpe caps.old vpes.now jobs.old outs.old scratch.old }
     ensures row { (s : Side) →
         record {
           side = finished setup.now kernel result.1
@@ -134,13 +115,9 @@ pub fn clear_call(
         IsSomeAnd (own (owning caps.old vpes.now no_side) vpe sel) (λ c. c.mark ≡ None) }
     ensures there { IfSome result.1 (λ j. IsSome (job_of jobs.new.jobs j)) }
     ensures done { IfSome result.1 (λ j. (j ≡ jobs.old.next)) }
-    ensures boxes { HasBoxes setup.now outs.new }
-    ensures spare { outs.old.spare ≤ outs.new.spare + link_count caps.old.caps }
-    ensures job_spare { jobs.old.spare ≤ jobs.new.spare + 1 }
-    ensures caps_spare { caps.new.spare ≡ caps.old.spare }
+    ensures left { HasRoomLeft setup.now caps.old jobs.old outs.old scratch.old
+        caps.new jobs.new outs.new scratch.new }
     ensures dtus { dtus.new.ours ≡ dtus.old.ours }
-    ensures space { HasSpace caps.new scratch.new }
-    ensures gone { vec_capacity scratch.new.gone ≡ vec_capacity scratch.old.gone }
 {
     // Shows the proof that the VPE has a place.
     let _ = vpes.alive(vpe);

@@ -1,5 +1,5 @@
 -- Acts of a kernel ("Events" in docs/machine.md).
-use Rattle.std.specs.Prelude.{ℕ}
+use Rattle.std.specs.Prelude.{ℕ, Bool, true, false}
 use Rattle.sem_msg.specs.declared.event.Act.{Act}
 use Rattle.sem_msg.specs.declared.event.Act.TheVariants.{Call as Calls, Fetch, Handle, Upcall, Resume, Flush, Kill}
 
@@ -12,3 +12,15 @@ number_of (Upcall vpe) = 4
 number_of (Resume vpe) = 5
 number_of (Flush to) = 6
 number_of (Kill vpe) = 7
+
+-- the VPE whose call an act answers
+abbrev pub replied_vpe : Act → ℕ
+replied_vpe (Calls v) = v
+replied_vpe (Resume v) = v
+replied_vpe act = 0
+
+-- whether an act only moves a message
+abbrev pub only_moves : Act → Bool
+only_moves (Fetch from) = true
+only_moves (Flush to) = true
+only_moves act = false

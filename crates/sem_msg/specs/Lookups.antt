@@ -1,13 +1,18 @@
 -- What a setup says of VPEs, owners, services and denies ("Setup" and "Owners" in docs/machine.md).
-use Rattle.std.specs.Prelude.{◌≡◌, ℕ, ◌<◌, ◌==◌, Bool, false, ◌&&◌, List, [], filter, find, Option, Some, None}
-use Rattle.std.specs.Prelude.{is_some, unwrap_or, if◌then◌else◌}
+use Rattle.std.specs.Prelude.{◌≡◌, ℕ, ◌<◌, ◌==◌, nat_lt, Bool, true, false, not, ◌&&◌, List, [], filter, find}
+use Rattle.std.specs.Prelude.{Option, Some, None, is_some, unwrap_or, if◌then◌else◌}
 use Rattle.std.specs.List.{list_any}
 use Rattle.std.specs.Option.{option_map, option_map_or, option_and_then}
 use Rattle.sem_key.specs.Prelude.{KeyName, key_eq}
 use Rattle.sem_key.specs.PlaceName.{PlaceName}
 use Rattle.sem_key.specs.MembershipTable.{owner_at}
 use Rattle.sem_key.specs.declared.limits.TheConstants.{PES, VPES}
+use Rattle.sem_key.specs.declared.object.Object.{Object}
+use Rattle.sem_key.specs.declared.object.Object.TheVariants.{Mem, Recv, Send, Serv, Sess}
 use Rattle.sem_msg.specs.declared.call.Call.{Call}
+use Rattle.sem_msg.specs.declared.message.Target.{Target}
+use Rattle.sem_msg.specs.declared.message.Target.TheVariants.{Sel as SelTarget, Serv as ServTarget}
+use Rattle.sem_msg.specs.declared.message.Target.TheVariants.{Offer as OfferTarget}
 use Rattle.sem_msg.specs.declared.setup.VpeDecl.{VpeDecl}
 use Rattle.sem_msg.specs.declared.setup.Service.{Service}
 use Rattle.sem_msg.specs.Setup.{Setup}
@@ -36,6 +41,28 @@ is_declared T v = list_any (λ d. d.vpe == v) T.vpes
 abbrev pub is_declared_at : Setup → ℕ → ℕ → Bool
 is_declared_at T pe v = option_map_or (λ d. d.pe == pe) (decl T v) false
 
+-- whether the VPE of a key is declared on the key's PE
+abbrev pub is_key_declared : Setup → KeyName → Bool
+is_key_declared T k = is_declared_at T k.pe k.vpe
+
+-- whether the VPE of a place is declared on the place's PE
+abbrev pub is_place_declared : Setup → PlaceName → Bool
+is_place_declared T p = is_declared_at T p.pe p.vpe
+
+-- whether the service that a target names is declared
+abbrev pub is_target_declared : Setup → Target → Bool
+is_target_declared T (SelTarget vpe sel) = true
+is_target_declared T (ServTarget service) = is_key_declared T service
+is_target_declared T (OfferTarget service index) = is_key_declared T service
+
+-- whether the gate or the service that an object names is declared
+abbrev pub is_object_declared : Setup → Object → Bool
+is_object_declared T (Mem base len rights) = true
+is_object_declared T (Recv slots) = true
+is_object_declared T (Send gate label credits) = is_key_declared T gate
+is_object_declared T (Serv name) = true
+is_object_declared T (Sess service ident) = is_key_declared T service
+
 -- the kernel that owns a PE; if none does, the number of kernels, which is no kernel
 abbrev pub pe_owner : Setup → ℕ → ℕ
 pe_owner T pe = unwrap_or (owner_at T.owners pe) T.kernels
@@ -51,6 +78,10 @@ place_owner T p = pe_owner T p.pe
 -- the kernel of a VPE; if it is not declared, the number of kernels, which is no kernel
 abbrev pub kernel_of : Setup → ℕ → ℕ
 kernel_of T v = option_map_or (λ d. pe_owner T d.pe) (decl T v) T.kernels
+
+-- whether j is another kernel of the setup than i
+abbrev pub is_other_kernel : Setup → ℕ → ℕ → Bool
+is_other_kernel T i j = nat_lt j T.kernels && not (j == i)
 
 -- whether a VPE with that declaration is one of kernel i
 abbrev pub runs_on : Setup → ℕ → VpeDecl → Bool

@@ -17,6 +17,12 @@ use Rattle.sem_msg.specs.declared.message.Message.TheVariants.{DelegatePrepared,
 use Rattle.sem_msg.specs.declared.message.Message.TheVariants.{RevokeDone, Unlink}
 use Rattle.sem_msg.specs.Calls.{IsSelector}
 
+-- the VPE of a target: the named one, or that of the service
+abbrev pub target_vpe : Target → ℕ
+target_vpe (SelTarget vpe sel) = vpe
+target_vpe (ServTarget service) = service.vpe
+target_vpe (OfferTarget service index) = service.vpe
+
 abbrev pub IsServiceKey : KeyName → Type 0
 IsServiceKey k = IsValidKey k × (k.kind ≡ ServKind)
 

@@ -1,9 +1,9 @@
 -- The states in which the calls of VPEs wait, by number, and their small changes ("State" in
 -- docs/machine.md).
-use Rattle.std.specs.Prelude.{ℕ, Bool, false, if◌then◌else◌, List, slice_index_or, Option, Some, None}
+use Rattle.std.specs.Prelude.{ℕ, ◌==◌, Bool, false, if◌then◌else◌, List, slice_index_or, Option, Some, None}
 use Rattle.sem_key.specs.Prelude.{KeyName, key_eq, put}
 use Rattle.sem_msg.specs.declared.state.Parked.{Parked}
-use Rattle.sem_msg.specs.declared.state.Parked.TheVariants.{ObtainReady, ObtainCancelled}
+use Rattle.sem_msg.specs.declared.state.Parked.TheVariants.{ObtainWait, ObtainReady, ObtainCancelled, DelegateWait}
 
 -- the state in which the call of the VPE waits, if it does
 abbrev pub state_of : List (Option Parked) → ℕ → Option Parked
@@ -16,6 +16,16 @@ parked_as states v state = put None states v (Some state)
 -- no call of the VPE waits
 abbrev pub unparked : List (Option Parked) → ℕ → List (Option Parked)
 unparked states v = put None states v None
+
+-- whether an asking call with that number waits
+abbrev pub is_obtain_wait : ℕ → Option Parked → Bool
+is_obtain_wait number (Some (ObtainWait n sel)) = n == number
+is_obtain_wait number p = false
+
+-- whether a delegate of that capability waits
+abbrev pub is_delegate_wait : KeyName → Option Parked → Bool
+is_delegate_wait parent (Some (DelegateWait k)) = key_eq k parent
+is_delegate_wait parent p = false
 
 -- whether a call in that state is about to install the key
 abbrev pub is_ready_with : KeyName → Option Parked → Bool

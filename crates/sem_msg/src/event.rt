@@ -1,5 +1,6 @@
 ghost use Rattle.std.specs.Prelude.{◌≡◌};
-ghost use Rattle.sem_msg.specs.Act.{number_of};
+ghost use Rattle.sem_msg.specs.Act.{number_of, only_moves as only_moves_lem};
+ghost use Rattle.sem_msg.specs.Act.{replied_vpe as replied_vpe_lem};
 
 /// What one kernel does in one atomic step.
 #[derive(Clone, Copy, Debug, PartialEq, Eq)]
@@ -25,6 +26,25 @@ pub enum Act {
 pub struct Event {
     pub kernel: u32,
     pub act: Act,
+}
+
+impl Act {
+    /// The VPE whose call the act can answer; 0 for an act that answers no call.
+    pub fn replied_vpe(self) -> u16
+        ensures { result ≡ replied_vpe_lem self }
+    {
+        match self {
+            Act::Call { vpe } | Act::Resume { vpe } => vpe,
+            _ => 0,
+        }
+    }
+
+    /// Whether the act only moves a message: a fetch or a flush.
+    pub fn only_moves(self) -> bool
+        ensures { result ≡ only_moves_lem self }
+    {
+        matches!(self, Act::Fetch { .. } | Act::Flush { .. })
+    }
 }
 
 /// The number of the act, 1 to 7 in the order of `Act`.

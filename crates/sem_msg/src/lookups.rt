@@ -2,15 +2,22 @@ ghost use Rattle.std.specs.Prelude.{◌≡◌, ◌<◌, true, option_copied, IfS
 ghost use Rattle.sem_key.specs.declared.limits.TheConstants.{VPES};
 ghost use Rattle.std.specs.List.{Contains};
 ghost use Rattle.sem_msg.specs.Setup.{IsVpeDecl};
+ghost use Rattle.sem_msg.specs.Fabric.{is_due as is_due_lem};
+ghost use Rattle.sem_msg.specs.Journal.{kill_number as kill_number_lem};
 ghost use Rattle.sem_msg.specs.Lookups.{decl as decl_lem, own_decl as own_decl_lem};
 ghost use Rattle.sem_msg.specs.Lookups.{is_own as is_own_lem, is_declared as is_declared_lem};
 ghost use Rattle.sem_msg.specs.Lookups.{is_declared_at as is_declared_at_lem, denies as denies_lem};
 ghost use Rattle.sem_msg.specs.Lookups.{pe_of as pe_of_lem, pe_owner as pe_owner_lem};
 ghost use Rattle.sem_msg.specs.Lookups.{owner_of as owner_of_lem, place_owner as place_owner_lem};
 ghost use Rattle.sem_msg.specs.Lookups.{kernel_of as kernel_of_lem, IsPlaced};
+ghost use Rattle.sem_msg.specs.Lookups.{is_key_declared as is_key_declared_lem};
+ghost use Rattle.sem_msg.specs.Lookups.{is_target_declared as is_target_declared_lem};
+ghost use Rattle.sem_msg.specs.Lookups.{is_object_declared as is_object_declared_lem};
+ghost use Rattle.sem_msg.specs.Lookups.{is_other_kernel as is_other_kernel_lem};
 
+use crate::message::Target;
 use crate::setup::{Setup, VpeDecl};
-use sem_key::{Key, PES, Place};
+use sem_key::{Key, Object, PES, Place};
 
 impl Setup {
     /// The declaration of a VPE; none if it is not declared.
@@ -116,9 +123,57 @@ impl Setup {
 
     /// Whether the VPE of the key is declared on the PE of the key.
     pub fn is_key_declared(&self, key: &Key) -> bool
-        ensures { result ≡ is_declared_at_lem self.now key.now.pe key.now.vpe }
+        ensures { result ≡ is_key_declared_lem self.now key.now }
     {
         self.is_declared_at(key.pe, key.vpe)
+    }
+
+    /// Whether the service that the target names is declared; true if it names none.
+    pub fn is_target_declared(&self, target: &Target) -> bool
+        ensures { result ≡ is_target_declared_lem self.now target.now }
+    {
+        match target {
+            Target::Sel { .. } => true,
+            Target::Serv { service } | Target::Offer { service, .. } => {
+                self.is_key_declared(service)
+            }
+        }
+    }
+
+    /// Whether the gate or the service that the object names is declared; true if it names none.
+    pub fn is_object_declared(&self, object: &Object) -> bool
+        ensures { result ≡ is_object_declared_lem self.now object.now }
+    {
+        match object {
+            Object::Mem { .. } | Object::Recv { .. } | Object::Serv { .. } => true,
+            Object::Send { gate, .. } => self.is_key_declared(gate),
+            Object::Sess { service, .. } => self.is_key_declared(service),
+        }
+    }
+
+    /// Whether the other kernel is one of the setup, and not that kernel.
+    pub fn is_other_kernel(&self, kernel: u32, other: u32) -> bool
+        ensures { result ≡ is_other_kernel_lem self.now kernel other }
+    {
+        other < self.kernels && other != kernel
+    }
+
+    /// After how many replies the VPE is killed; none if it never is.
+    pub fn kill_number(&self, vpe: u16) -> Option<u64>
+        ensures { result ≡ kill_number_lem self.now vpe }
+    {
+        let kill = self.kills.as_slice().iter().find(|kill| kill.0 == vpe)?;
+        Some(kill.1)
+    }
+
+    /// Whether the VPE is due to be killed after that many replies.
+    pub fn is_due(&self, replies: u64, vpe: u16) -> bool
+        ensures { result ≡ is_due_lem self.now replies vpe }
+    {
+        match self.kill_number(vpe) {
+            Some(number) => number <= replies,
+            None => false,
+        }
     }
 
     /// Whether the VPE denies what the asker asks.

@@ -1,3 +1,6 @@
+ghost use Rattle.std.specs.Prelude.{◌≡◌};
+ghost use Rattle.sem_msg.specs.Message.{target_vpe};
+
 use sem_key::{Key, Object, Place};
 
 /// What an obtain asks for.
@@ -9,6 +12,18 @@ pub enum Target {
     Serv { service: Key },
     /// What the service of that key offers under an index.
     Offer { service: Key, index: u8 },
+}
+
+impl Target {
+    /// The VPE that is asked: the named one, or that of the service.
+    pub fn vpe(&self) -> u16
+        ensures { result ≡ target_vpe self.now }
+    {
+        match self {
+            Target::Sel { vpe, .. } => *vpe,
+            Target::Serv { service } | Target::Offer { service, .. } => service.vpe,
+        }
+    }
 }
 
 /// A message from one kernel to another.

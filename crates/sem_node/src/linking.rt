@@ -2,7 +2,6 @@
 // would not know what an earlier one showed of the links.
 ghost use Rattle.std.specs.Prelude.{◌≡◌, ◌<◌, true};
 ghost use Rattle.std.specs.Result.{result_ok};
-ghost use Rattle.sem_kernel.specs.Rooms.{only_moves as only_moves_lem};
 ghost use Rattle.sem_kernel.specs.Worlds.{NamesPeer};
 ghost use Rattle.sem_turn.specs.Passes.{has_place};
 ghost use Rattle.sem_node.specs.Stepping.{IsReadyToTry, HasTried};
@@ -25,13 +24,6 @@ pub struct Linked {
     pub more: bool,
 }
 
-// Whether the act only moves a message.
-fn only_moves(act: Act) -> bool
-    ensures { result ≡ only_moves_lem act }
-{
-    matches!(act, Act::Fetch { .. } | Act::Flush { .. })
-}
-
 // Whether the link of a fetch is full, and whether it holds more than one message.
 fn fetched_link(fabric: &Fabric, kernel: u32, act: Act) -> (bool, bool)
     requires kernel { kernel < fabric.now.kernels }
@@ -50,7 +42,7 @@ fn link_step(kernel: &mut Gated, fabric: &mut Fabric, permit: Permit, act: Act) 
     requires permit { permit ≡ record { kernel = kernel.old.id; act = act } }
     ensures { HasTried result.done kernel.old fabric.old act kernel.new fabric.new }
 {
-    if !only_moves(act) {
+    if !act.only_moves() {
         return Linked {
             done: false,
             full: false,

@@ -115,20 +115,10 @@ pub fn obtain_request(
     ensures boxes { HasBoxes setup.now outs.new }
     ensures spare { outs.old.spare ≤ outs.new.spare + 1 }
 {
-    let vpe = target_vpe(&target);
+    let vpe = target.vpe();
     if vpes.alive(vpe) {
         vpes.ask(vpe, Ask::Obtain { place, target });
     } else {
         send_refusal(setup, place, Code::Dead, outs);
-    }
-}
-
-// The VPE of a target: the named one, or that of the service.
-fn target_vpe(target: &Target) -> u16
-    ensures { result ≡ target_vpe_lem target.now }
-{
-    match target {
-        Target::Sel { vpe, .. } => *vpe,
-        Target::Serv { service } | Target::Offer { service, .. } => service.vpe,
     }
 }

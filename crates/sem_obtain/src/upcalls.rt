@@ -12,7 +12,6 @@ ghost use Rattle.sem_msg.specs.Message.{Fits, IsValidTarget};
 ghost use Rattle.sem_msg.specs.Outboxes.{HasBoxes};
 ghost use Rattle.sem_msg.specs.ParkedStates.{state_of};
 ghost use Rattle.sem_vpe.specs.VpeTable.{AreOurs, IsOurs};
-ghost use Rattle.sem_machine.specs.Asks.{is_obtain_wait};
 ghost use Rattle.sem_machine.specs.Sides.{Side, no_side};
 ghost use Rattle.sem_machine.specs.Upcalls.{ask_decided, given as given_lem, given_here};
 ghost use Rattle.sem_machine.specs.Upcalls.{obtain_consent, source as source_lem};
@@ -96,22 +95,7 @@ fn answer(setup: &Setup, kernel: u32, vpe: u16, place: Place, park: &Park) -> Co
 fn is_unawaited(setup: &Setup, kernel: u32, place: Place, park: &Park) -> bool
     ensures { result ≡ is_unawaited_lem setup.now kernel park.now place }
 {
-    setup.kernel_of(place.vpe) == kernel && !waits_with(place.number, &park.state(place.vpe))
-}
-
-// Whether an asking call with that number waits.
-fn waits_with(number: u16, state: &Option<Parked>) -> bool
-    ensures { result ≡ is_obtain_wait number state.now }
-{
-    match state {
-        Some(
-            Parked::ObtainWait {
-                number: waiting,
-                ..
-            },
-        ) => *waiting == number,
-        _ => false,
-    }
+    setup.kernel_of(place.vpe) == kernel && !park.is_obtain_wait(place.vpe, place.number)
 }
 
 // The VPE gives what it is asked for, unless it can't. Returns the parent and the child.

@@ -72,3 +72,16 @@ fn a_call_is_cancelled_by_the_key_that_it_is_about_to_install(rt: HostRuntime) {
         assert_eq!(rt; park.state(3), Some(*state));
     }
 }
+
+#[test]
+fn an_obtain_waits_with_its_number_and_a_delegate_with_its_capability(rt: HostRuntime) {
+    let mut park = Park::new();
+    park.park(4, Parked::ObtainWait { number: 9, sel: 1 });
+    park.park(5, Parked::DelegateWait { parent: key(5, 2) });
+    assert!(rt; park.is_obtain_wait(4, 9));
+    assert!(rt; !park.is_obtain_wait(4, 8), "another number");
+    assert!(rt; !park.is_obtain_wait(5, 9), "a delegate waits");
+    assert!(rt; park.is_delegate_wait(key(5, 2)));
+    assert!(rt; !park.is_delegate_wait(key(5, 3)), "another capability");
+    assert!(rt; !park.is_delegate_wait(key(4, 9)), "an obtain waits");
+}

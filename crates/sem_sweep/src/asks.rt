@@ -14,7 +14,7 @@ ghost use Rattle.sem_msg.specs.ParkedStates.{parked_as, state_of};
 ghost use Rattle.sem_msg.specs.declared.state.Parked.TheVariants.{Ready};
 ghost use Rattle.sem_msg.specs.VpeRows.{row};
 ghost use Rattle.sem_vpe.specs.VpeTable.{AreOurs, IsOurs};
-ghost use Rattle.sem_machine.specs.Asks.{call_refused, is_delegate_wait};
+ghost use Rattle.sem_machine.specs.Asks.{call_refused};
 ghost use Rattle.sem_machine.specs.Ends.{ask_ended};
 ghost use Rattle.sem_machine.specs.Sides.{Side};
 ghost use Rattle.sem_machine.specs.Stores.{with_outs, with_parks, with_vpes};
@@ -22,7 +22,7 @@ ghost use Rattle.sem_sweep.specs.Sweeping.{CanOwe, HasAsker, obtain_ended, unask
 ghost use Rattle.sem_sweep.specs.Sweeping.{with_vpes_parks_outs};
 
 use crate::messages::{obtain_refusal, offer_refusal, tell, tell_owner};
-use sem_key::{Key, Place, same_key};
+use sem_key::{Key, Place};
 use sem_msg::{Ask, Code, Outboxes, Parked, Setup};
 use sem_park::Park;
 use sem_vpe::Vpes;
@@ -143,17 +143,6 @@ fn refuse(vpe: u16, park: &mut Park)
     );
 }
 
-// Whether a delegate of the capability waits.
-fn is_offered(parent: Key, park: &Park) -> bool
-    ensures { result ≡ is_delegate_wait parent (state_of park.now parent.vpe) }
-{
-    let state = park.state(parent.vpe);
-    match &state {
-        Some(Parked::DelegateWait { parent: offered }) => same_key(offered, &parent),
-        _ => false,
-    }
-}
-
 // Answers the ask of a delegate: tells its kernel, or refuses the call here, if it waits.
 fn end_offer(setup: &Setup, kernel: u32, parent: Key, park: &mut Park, outs: &mut Outboxes)
     requires owner { owner_of_lem setup.now parent < setup.now.kernels }
@@ -168,7 +157,7 @@ fn end_offer(setup: &Setup, kernel: u32, parent: Key, park: &mut Park, outs: &mu
 {
     if setup.kernel_of(parent.vpe) != kernel {
         tell_owner(setup, parent, offer_refusal(parent), outs);
-    } else if is_offered(parent, park) {
+    } else if park.is_delegate_wait(parent) {
         refuse(parent.vpe, park);
     }
 }

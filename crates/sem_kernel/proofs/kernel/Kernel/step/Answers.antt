@@ -1,4 +1,4 @@
-use Rattle.std.proofs.Common.{◌≡◌, true, sym, ap, subst}
+use Rattle.std.proofs.Common.{◌≡◌, true, sym, ap, subst, rules}
 use Rattle.sem_machine.specs.Steps.{Step}
 use Rattle.sem_machine.specs.Sound.{IsSound}
 use Rattle.sem_machine.specs.Machine.{is_locally_enabled}
@@ -29,5 +29,5 @@ invariant_of-self c =
 pub returns-clause-entry : goal.returns-clause-entry
 returns-clause-entry c =
     rw (← c.self.view_is) (entry-is c.self.inside.setup c.self.inside.id (side_of c.self.inside.stores) c.args.act c.args.input c.act-detail.result.0
-    c.act-detail.result.1 c.reply_of.result (side_of c.act-detail.new.self) (rw c.get.ensures at c.act-detail.ensures.step)
-    (rw c.get.ensures at c.act-detail.ensures.detail_is) c.reply_of.ensures)
+    c.act-detail.result.1 c.map.result (side_of c.act-detail.new.self) (rw c.get.ensures at c.act-detail.ensures.step)
+    (rw c.get.ensures at c.act-detail.ensures.detail_is) (search rules))

@@ -5,13 +5,13 @@ use Rattle.sem_kernel.proofs.Openings.{lead-home, call-middle, call-jobs, call-c
 use Rattle.sem_kernel.specs.KernelStores.{side_of}
 use Rattle.sem_kernel.proofs.stores.Stores.clear.Goals as goal
 
-pub clear_call-outcome-requires-clause-ids : goal.clear_call-outcome-requires-clause-ids
-clear_call-outcome-requires-clause-ids c = ids-fit c.args.setup.now c.requires.can.are.setup c.args.kernel c.requires.can.are.is_one
-    (side_of c.args.self.now) c.requires.can.are.sound
-
-pub clear_call-outcome-requires-clause-owners : goal.clear_call-outcome-requires-clause-owners
-clear_call-outcome-requires-clause-owners c = lead-home c.args.setup.now c.requires.can.are.setup c.args.kernel c.requires.can.are.is_one
-    (side_of c.args.self.now) c.requires.can.are.sound
+pub clear_call-outcome-requires : goal.clear_call-outcome-requires
+clear_call-outcome-requires c =
+    let T = c.args.setup.now in
+    let are = c.requires.can.are in
+    let fit = ids-fit T are.setup c.args.kernel are.is_one (side_of c.args.self.now) are.sound in
+    let home = lead-home T are.setup c.args.kernel are.is_one (side_of c.args.self.now) are.sound in
+    search (rules, fit, home)
 
 pub finish-requires-clause-sound : goal.finish-requires-clause-sound
 finish-requires-clause-sound c =
@@ -25,7 +25,7 @@ finish-requires-clause-outs c some =
     let jobs = call-jobs c.args.setup.now c.requires.can.are.setup c.args.kernel c.requires.can.are.is_one (side_of c.args.self.now) c.requires.can.are.sound c.args.vpe
     c.args.src true c.clear_call-outcome.result.1 _ c.clear_call-outcome.ensures.unmarked
     (λ some' p at. c.clear_call-outcome.ensures.opened some' p at (side_of c.args.self.now)) some in
-    let spare = c.clear_call-outcome.ensures.spare in
+    let spare = c.clear_call-outcome.ensures.left.spare in
     let room = c.requires.room.outs in
     omega (arith, jobs, spare, room)
 
@@ -34,7 +34,7 @@ finish-requires-clause-gone c some =
     let caps = call-caps c.args.setup.now c.requires.can.are.setup c.args.kernel c.requires.can.are.is_one (side_of c.args.self.now) c.requires.can.are.sound c.args.vpe
     c.args.src true c.clear_call-outcome.result.1 _ c.clear_call-outcome.ensures.unmarked
     (λ some' p at. c.clear_call-outcome.ensures.opened some' p at (side_of c.args.self.now)) some in
-    let gone = c.clear_call-outcome.ensures.gone in
+    let gone = c.clear_call-outcome.ensures.left.gone in
     let room = c.requires.room.gone in
     omega (arith, caps, gone, room)
 

@@ -15,13 +15,13 @@ revoke_call-outcome-requires-clause-marker c = own-sound c.args.setup.now c.requ
     (λ p among sound. marker-there c.args.setup.now c.requires.can.are.setup c.args.kernel c.requires.can.are.is_one (side_of c.args.self.now) c.requires.can.are.sound p
     among)
 
-pub revoke_call-outcome-requires-clause-ids : goal.revoke_call-outcome-requires-clause-ids
-revoke_call-outcome-requires-clause-ids c = ids-fit c.args.setup.now c.requires.can.are.setup c.args.kernel c.requires.can.are.is_one
-    (side_of c.args.self.now) c.requires.can.are.sound
-
-pub revoke_call-outcome-requires-clause-owners : goal.revoke_call-outcome-requires-clause-owners
-revoke_call-outcome-requires-clause-owners c = lead-home c.args.setup.now c.requires.can.are.setup c.args.kernel c.requires.can.are.is_one
-    (side_of c.args.self.now) c.requires.can.are.sound
+pub revoke_call-outcome-requires-clause-can : goal.revoke_call-outcome-requires-clause-can
+revoke_call-outcome-requires-clause-can c =
+    let T = c.args.setup.now in
+    let are = c.requires.can.are in
+    let fit = ids-fit T are.setup c.args.kernel are.is_one (side_of c.args.self.now) are.sound in
+    let home = lead-home T are.setup c.args.kernel are.is_one (side_of c.args.self.now) are.sound in
+    search (rules, fit, home)
 
 pub finish-requires-clause-sound : goal.finish-requires-clause-sound
 finish-requires-clause-sound c =
@@ -36,7 +36,7 @@ finish-requires-clause-outs c some =
     let jobs = call-jobs c.args.setup.now c.requires.can.are.setup c.args.kernel c.requires.can.are.is_one (side_of c.args.self.now) c.requires.can.are.sound c.args.vpe
     c.args.src false c.revoke_call-outcome.result.1 _ c.revoke_call-outcome.ensures.unmarked
     (λ some' p at. c.revoke_call-outcome.ensures.opened some' p at (side_of c.args.self.now)) some in
-    let spare = c.revoke_call-outcome.ensures.spare in
+    let spare = c.revoke_call-outcome.ensures.left.spare in
     let room = c.requires.room.outs in
     omega (arith, jobs, spare, room)
 
@@ -45,7 +45,7 @@ finish-requires-clause-gone c some =
     let caps = call-caps c.args.setup.now c.requires.can.are.setup c.args.kernel c.requires.can.are.is_one (side_of c.args.self.now) c.requires.can.are.sound c.args.vpe
     c.args.src false c.revoke_call-outcome.result.1 _ c.revoke_call-outcome.ensures.unmarked
     (λ some' p at. c.revoke_call-outcome.ensures.opened some' p at (side_of c.args.self.now)) some in
-    let gone = c.revoke_call-outcome.ensures.gone in
+    let gone = c.revoke_call-outcome.ensures.left.gone in
     let room = c.requires.room.gone in
     omega (arith, caps, gone, room)
 
