@@ -51,16 +51,8 @@ impl Stores {
                 label,
                 credits,
             } => self.gate(setup, kernel, vpe, src, dst, label, credits),
-            Call::Obtain {
-                dst,
-                vpe: other,
-                src,
-            } => self.obtain(setup, kernel, vpe, dst, other, src),
-            Call::Delegate {
-                src,
-                vpe: other,
-                dst,
-            } => self.delegate(setup, kernel, vpe, src, other, dst),
+            Call::Obtain { dst, vpe: of, src } => self.obtain(setup, kernel, vpe, dst, of, src),
+            Call::Delegate { src, vpe: to, dst } => self.delegate(setup, kernel, vpe, src, to, dst),
             Call::OpenSession { dst, name } => self.open(setup, kernel, vpe, dst, name),
             Call::AskOffer {
                 dst,
@@ -133,23 +125,19 @@ impl Stores {
                 vpe,
                 sel,
             } => self.delegate_requested(setup, kernel, *parent, *object, *vpe, *sel),
-            Message::DelegatePrepared { parent, key } => {
-                self.delegate_accepted(setup, kernel, *parent, *key);
-            }
+            Message::DelegatePrepared { parent, key } => self.delegate_accepted(
+                setup, kernel, *parent, *key,
+            ),
             Message::DelegateNo { parent, code } => {
                 delegate_refused(setup, kernel, *parent, *code, &self.vpes, &mut self.park);
             }
             Message::Ack { key, yes } => self.acknowledged(setup, kernel, *key, *yes),
-            Message::Orphan { parent, key } => {
-                orphan(*parent, *key, &mut self.caps);
-            }
-            Message::RevokeReq { key, job } => {
-                self.revoke_requested(setup, kernel, from, *key, *job);
-            }
+            Message::Orphan { parent, key } => orphan(*parent, *key, &mut self.caps),
+            Message::RevokeReq { key, job } => self.revoke_requested(
+                setup, kernel, from, *key, *job,
+            ),
             Message::RevokeDone { job } => self.token_returned(setup, kernel, from, *job),
-            Message::Unlink { parent, key } => {
-                unlink(*parent, *key, &mut self.caps);
-            }
+            Message::Unlink { parent, key } => unlink(*parent, *key, &mut self.caps),
         }
     }
 }
