@@ -83,6 +83,19 @@ no_job r = do
   job ← unused 24 r.job
   no_object r
 
+-- the rows from 16 on of a message with one key or one place alone
+abbrev pub no_second : Rows → Result (Unit {0}) WireFault
+no_second r = do
+  second ← unused 16 r.second
+  no_job r
+
+-- the rows up to 6 of a message with a code
+abbrev pub code_in : Rows → Result ℕ WireFault
+code_in r = do
+  code ← allowed 1 (is_in_range 1 15 r.form)
+  index ← no_index r
+  Ok r.form
+
 -- the rows at 32, 40 and 48 of an object of each kind
 unfoldable pub mem_in : Rows → Result Object WireFault
 mem_in r = do

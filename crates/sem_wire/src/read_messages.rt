@@ -6,7 +6,7 @@ ghost use Rattle.sem_wire.specs.Reading.{revoke_req_in, sel_in, serv_target_in, 
 use crate::fault::WireFault;
 use crate::read_objects::object;
 use crate::read_rows::{
-    allowed, key_at, kind_key_at, no_index, no_job, no_object, place_at, unused,
+    allowed, code, key_at, kind_key_at, no_index, no_job, no_object, no_second, place_at, unused,
 };
 use crate::rows::Rows;
 use sem_key::{Key, Kind, VPES};
@@ -32,8 +32,7 @@ fn by_selector(rows: &Rows) -> Result<Message, WireFault>
     allowed(4, rows.index < 1 << 8)?;
     unused(6, u64::from(rows.after_index))?;
     let place = place_at(8, rows.first)?;
-    unused(16, rows.second)?;
-    no_job(rows)?;
+    no_second(rows)?;
     let target = Target::Sel {
         vpe: rows.vpe,
         sel: rows.index as u8,
@@ -92,15 +91,10 @@ pub fn obtain_ok(rows: &Rows) -> Result<Message, WireFault>
 pub fn obtain_no(rows: &Rows) -> Result<Message, WireFault>
     ensures { result ≡ obtain_no_in rows.now }
 {
-    allowed(1, 1 <= rows.form && rows.form <= 15)?;
-    no_index(rows)?;
+    let code = code(rows)?;
     let place = place_at(8, rows.first)?;
-    unused(16, rows.second)?;
-    no_job(rows)?;
-    Ok(Message::ObtainNo {
-        place,
-        code: rows.form,
-    })
+    no_second(rows)?;
+    Ok(Message::ObtainNo { place, code })
 }
 
 #[tactic(auto, unfolding(crate::specs::Reading::delegate_req_in))]
@@ -129,15 +123,10 @@ pub fn delegate_req(rows: &Rows) -> Result<Message, WireFault>
 pub fn delegate_no(rows: &Rows) -> Result<Message, WireFault>
     ensures { result ≡ delegate_no_in rows.now }
 {
-    allowed(1, 1 <= rows.form && rows.form <= 15)?;
-    no_index(rows)?;
+    let code = code(rows)?;
     let parent = key_at(8, rows.first)?;
-    unused(16, rows.second)?;
-    no_job(rows)?;
-    Ok(Message::DelegateNo {
-        parent,
-        code: rows.form,
-    })
+    no_second(rows)?;
+    Ok(Message::DelegateNo { parent, code })
 }
 
 #[tactic(auto, unfolding(crate::specs::Reading::ack_in))]
@@ -147,8 +136,7 @@ pub fn ack(rows: &Rows) -> Result<Message, WireFault>
     allowed(1, rows.form <= 1)?;
     no_index(rows)?;
     let key = key_at(8, rows.first)?;
-    unused(16, rows.second)?;
-    no_job(rows)?;
+    no_second(rows)?;
     Ok(Message::Ack {
         key,
         yes: rows.form == 1,

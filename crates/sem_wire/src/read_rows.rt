@@ -1,9 +1,10 @@
 ghost use Rattle.std.specs.Prelude.{◌≡◌};
 ghost use Rattle.sem_key.specs.KeyName.{kind_number};
-ghost use Rattle.sem_wire.specs.Reading.{allowed as allowed_lem, key_at as key_at_lem};
+ghost use Rattle.sem_wire.specs.Reading.{allowed as allowed_lem, code_in, key_at as key_at_lem};
 ghost use Rattle.sem_wire.specs.Reading.{kind_key_at as kind_key_at_lem, no_index as no_index_lem};
 ghost use Rattle.sem_wire.specs.Reading.{no_job as no_job_lem, no_object as no_object_lem};
-ghost use Rattle.sem_wire.specs.Reading.{place_at as place_at_lem, unused as unused_lem};
+ghost use Rattle.sem_wire.specs.Reading.{no_second as no_second_lem, place_at as place_at_lem};
+ghost use Rattle.sem_wire.specs.Reading.{unused as unused_lem};
 
 use crate::fault::WireFault;
 use crate::rows::Rows;
@@ -92,4 +93,21 @@ pub fn no_job(rows: &Rows) -> Result<(), WireFault>
 {
     unused(24, u64::from(rows.job))?;
     no_object(rows)
+}
+
+/// The rows from 16 on of a message with one key or one place alone.
+pub fn no_second(rows: &Rows) -> Result<(), WireFault>
+    ensures { result ≡ no_second_lem rows.now }
+{
+    unused(16, rows.second)?;
+    no_job(rows)
+}
+
+/// The code of a message that refuses, in its rows up to 6.
+pub fn code(rows: &Rows) -> Result<u8, WireFault>
+    ensures { result ≡ code_in rows.now }
+{
+    allowed(1, 1 <= rows.form && rows.form <= 15)?;
+    no_index(rows)?;
+    Ok(rows.form)
 }
