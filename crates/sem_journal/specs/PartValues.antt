@@ -80,28 +80,3 @@ ReadsValue version part old = ReadsPart (part_places version (word_at old 0) par
 abbrev pub ReadsValues : ℕ → List Part → (old new : List (List ℕ)) → Result (List PartValue) Cause → Type 0
 ReadsValues version parts old = ReadsPart (places_from version old 0 parts) (parts_words parts)
     (ValuesFit version parts) old
-
--- a value of that kind
-abbrev pub IsKey : PartValue → Type 0
-IsKey (KeyValue key) = Unit
-IsKey value = ⊥
-
-abbrev pub IsPlace : PartValue → Type 0
-IsPlace (PlaceValue place) = Unit
-IsPlace value = ⊥
-
-abbrev pub IsNumber : PartValue → Type 0
-IsNumber (NumberValue n) = Unit
-IsNumber value = ⊥
-
-abbrev pub IsObject : PartValue → Type 0
-IsObject (ObjectValue object) = Unit
-IsObject value = ⊥
-
-abbrev pub IsTarget : PartValue → Type 0
-IsTarget (TargetValue target) = Unit
-IsTarget value = ⊥
-
-abbrev pub IsYesOrNo : PartValue → Type 0
-IsYesOrNo (YesOrNoValue accepted) = Unit
-IsYesOrNo value = ⊥

@@ -73,28 +73,29 @@ fn object_from(kind: Kind, values: &[PartValue; MOST_PARTS]) -> Object
     ensures fits { (version : ℕ) → ValuesFit version (object_parts kind) values.now
         → ObjectFits version result }
 {
-    let [first, second, third, _] = *values;
-    match kind {
-        Kind::Mem => Object::Mem {
-            base: first.number() as u32,
-            len: second.number() as u32,
-            rights: third.number() as u8,
+    let [first, second, third, _] = values;
+    match (kind, first, second, third) {
+        (Kind::Mem, PartValue::Number(base), PartValue::Number(len), PartValue::Number(rights)) =>
+            Object::Mem {
+                base: *base as u32,
+                len: *len as u32,
+                rights: *rights as u8,
+            },
+        (Kind::Recv, PartValue::Number(slots), ..) => Object::Recv {
+            slots: *slots as u8,
         },
-        Kind::Recv => Object::Recv {
-            slots: first.number() as u8,
+        (Kind::Send, PartValue::Key(gate), PartValue::Number(label), PartValue::Number(credits)) =>
+            Object::Send {
+                gate: *gate,
+                label: *label as u32,
+                credits: *credits as u8,
+            },
+        (Kind::Serv, PartValue::Number(name), ..) => Object::Serv { name: *name as u8 },
+        (Kind::Sess, PartValue::Key(service), PartValue::Number(ident), _) => Object::Sess {
+            service: *service,
+            ident: *ident as u16,
         },
-        Kind::Send => Object::Send {
-            gate: first.key(),
-            label: second.number() as u32,
-            credits: third.number() as u8,
-        },
-        Kind::Serv => Object::Serv {
-            name: first.number() as u8,
-        },
-        Kind::Sess => Object::Sess {
-            service: first.key(),
-            ident: second.number() as u16,
-        },
+        _ => unreachable!(),
     }
 }
 
@@ -118,19 +119,18 @@ fn target_from(kind: TargetKind, values: &[PartValue; MOST_PARTS]) -> Target
     ensures fits { (version : ℕ) → ValuesFit version (target_parts kind) values.now
         → TargetFits version result }
 {
-    let [first, second, ..] = *values;
-    match kind {
-        TargetKind::Sel => Target::Sel {
-            vpe: first.number() as u16,
-            sel: second.number() as u8,
+    let [first, second, ..] = values;
+    match (kind, first, second) {
+        (TargetKind::Sel, PartValue::Number(vpe), PartValue::Number(sel)) => Target::Sel {
+            vpe: *vpe as u16,
+            sel: *sel as u8,
         },
-        TargetKind::Serv => Target::Serv {
-            service: first.key(),
+        (TargetKind::Serv, PartValue::Key(service), _) => Target::Serv { service: *service },
+        (TargetKind::Offer, PartValue::Key(service), PartValue::Number(index)) => Target::Offer {
+            service: *service,
+            index: *index as u8,
         },
-        TargetKind::Offer => Target::Offer {
-            service: first.key(),
-            index: second.number() as u8,
-        },
+        _ => unreachable!(),
     }
 }
 
@@ -198,54 +198,72 @@ fn message_from(kind: MessageKind, values: &[PartValue; MOST_PARTS]) -> Message
     ensures fits { (version : ℕ) → ValuesFit version (message_parts kind) values.now
         → MessageFits version result }
 {
-    let [first, second, third, fourth] = *values;
-    match kind {
-        MessageKind::ObtainReq => Message::ObtainReq {
-            place: first.place(),
-            target: second.target(),
+    let [first, second, third, fourth] = values;
+    match (kind, first, second, third, fourth) {
+        (MessageKind::ObtainReq, PartValue::Place(place), PartValue::Target(target), ..) =>
+            Message::ObtainReq {
+                place: *place,
+                target: *target,
+            },
+        (
+            MessageKind::ObtainOk,
+            PartValue::Key(parent),
+            PartValue::Key(key),
+            PartValue::Object(object),
+            _,
+        ) => Message::ObtainOk {
+            parent: *parent,
+            key: *key,
+            object: *object,
         },
-        MessageKind::ObtainOk => Message::ObtainOk {
-            parent: first.key(),
-            key: second.key(),
-            object: third.object(),
+        (MessageKind::ObtainNo, PartValue::Place(place), PartValue::Number(code), ..) =>
+            Message::ObtainNo {
+                place: *place,
+                code: *code as u8,
+            },
+        (
+            MessageKind::DelegateReq,
+            PartValue::Key(parent),
+            PartValue::Object(object),
+            PartValue::Number(vpe),
+            PartValue::Number(sel),
+        ) => Message::DelegateReq {
+            parent: *parent,
+            object: *object,
+            vpe: *vpe as u16,
+            sel: *sel as u8,
         },
-        MessageKind::ObtainNo => Message::ObtainNo {
-            place: first.place(),
-            code: second.number() as u8,
+        (MessageKind::DelegatePrepared, PartValue::Key(parent), PartValue::Key(key), ..) =>
+            Message::DelegatePrepared {
+                parent: *parent,
+                key: *key,
+            },
+        (MessageKind::DelegateNo, PartValue::Key(parent), PartValue::Number(code), ..) =>
+            Message::DelegateNo {
+                parent: *parent,
+                code: *code as u8,
+            },
+        (MessageKind::Ack, PartValue::Key(key), PartValue::YesOrNo(yes), ..) => Message::Ack {
+            key: *key,
+            yes: *yes,
         },
-        MessageKind::DelegateReq => Message::DelegateReq {
-            parent: first.key(),
-            object: second.object(),
-            vpe: third.number() as u16,
-            sel: fourth.number() as u8,
+        (MessageKind::Orphan, PartValue::Key(parent), PartValue::Key(key), ..) => Message::Orphan {
+            parent: *parent,
+            key: *key,
         },
-        MessageKind::DelegatePrepared => Message::DelegatePrepared {
-            parent: first.key(),
-            key: second.key(),
+        (MessageKind::RevokeReq, PartValue::Key(key), PartValue::Number(job), ..) =>
+            Message::RevokeReq {
+                key: *key,
+                job: *job as u32,
+            },
+        (MessageKind::RevokeDone, PartValue::Number(job), ..) => Message::RevokeDone {
+            job: *job as u32,
         },
-        MessageKind::DelegateNo => Message::DelegateNo {
-            parent: first.key(),
-            code: second.number() as u8,
+        (MessageKind::Unlink, PartValue::Key(parent), PartValue::Key(key), ..) => Message::Unlink {
+            parent: *parent,
+            key: *key,
         },
-        MessageKind::Ack => Message::Ack {
-            key: first.key(),
-            yes: second.yes_or_no(),
-        },
-        MessageKind::Orphan => Message::Orphan {
-            parent: first.key(),
-            key: second.key(),
-        },
-        MessageKind::RevokeReq => Message::RevokeReq {
-            key: first.key(),
-            job: second.number() as u32,
-        },
-        MessageKind::RevokeDone => Message::RevokeDone {
-            job: first.number() as u32,
-        },
-        MessageKind::Unlink => Message::Unlink {
-            parent: first.key(),
-            key: second.key(),
-        },
+        _ => unreachable!(),
     }
 }
 
