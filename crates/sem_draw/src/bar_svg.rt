@@ -2,7 +2,7 @@
 use crate::OutOfMemory;
 use crate::bar::{Bar, Owner, Span, Stretch, group_text};
 use crate::lines::number_text;
-use crate::svg::{Point, push_head, push_line, push_rect, push_tail, push_text};
+use crate::svg::{Point, push_head, push_rect, push_tail, push_text, push_tick, text_width};
 use crate::table::{Column, row_count};
 use std::alloc::Global;
 
@@ -18,9 +18,6 @@ const HEIGHT: u64 = 40;
 const ROW: u64 = 22;
 
 const GAP: u64 = 14;
-
-/// The pixels of a character.
-const CHARACTER: u64 = 8;
 
 /// The number of colours.
 const COLORS: usize = 7;
@@ -43,11 +40,6 @@ fn class(owner: Option<Owner>) -> &'static str {
         5 => "c5",
         _ => "c6",
     }
-}
-
-// The pixels of that many bytes of text.
-fn text_width(bytes: usize) -> u64 {
-    (bytes as u64).saturating_mul(CHARACTER)
 }
 
 // The baseline of a row's text, given the top of the row.
@@ -136,7 +128,7 @@ fn push_bar(alloc: Global, out: &mut String, bar: &Bar, y: u64) -> Result<(), Ou
     for stretch in bar.stretches.as_slice() {
         let top = y.saturating_add(ROW);
         push_stretch(alloc, out, bar, stretch, top)?;
-        free = push_tick(alloc, out, bar, stretch.begin, top, free)?;
+        free = push_address(alloc, out, bar, stretch.begin, top, free)?;
     }
     for (place, span) in bar.spans.as_slice().iter().enumerate() {
         let row = ROW.saturating_mul(place as u64);
@@ -190,7 +182,7 @@ fn extent(bar: &Bar, stretch: &Stretch, y: u64) -> (Point, u64) {
 
 // Appends the address below the beginning of a part, if there is room from `free` on. Returns where
 // there is room then.
-fn push_tick(
+fn push_address(
     alloc: Global,
     out: &mut String,
     bar: &Bar,
@@ -203,21 +195,16 @@ fn push_tick(
         return Ok(free);
     }
     let bottom = y.saturating_add(HEIGHT);
-    let end = bottom.saturating_add(5);
-    push_line(
+    let baseline = bottom.saturating_add(17);
+    let end = push_tick(
         alloc,
         out,
-        "tick",
+        "head",
         Point { x, y: bottom },
-        Point { x, y: end },
+        baseline,
+        address,
     )?;
-    let text = number_text(alloc, address)?;
-    let at = Point {
-        x,
-        y: bottom.saturating_add(17),
-    };
-    push_text(alloc, out, "head", at, text.as_str())?;
-    Ok(x.saturating_add(text_width(text.len())).saturating_add(GAP))
+    Ok(end.saturating_add(GAP))
 }
 
 // Appends a line below a bar, and the text about it.

@@ -224,6 +224,13 @@ fn set_head(cells: &mut [Cell], from: usize, to: usize) {
     }
 }
 
+// Draws an arrow from a lane to another.
+fn set_arrow(cells: &mut [Cell], layout: &Layout, from: usize, to: usize) {
+    let (from, to) = (layout.column(from), layout.column(to));
+    set_level(cells, from, to, false);
+    set_head(cells, from, to);
+}
+
 // Puts a sign at a column.
 fn set_sign(cells: &mut [Cell], column: usize, sign: Sign) {
     if let Some(cell) = cells.get_mut(column) {
@@ -281,24 +288,16 @@ fn draw(cells: &mut [Cell], layout: &mut Layout, row: &Row) -> Result<(), OutOfM
             kernel,
             is_answered,
         } => {
-            let (from, to) = (layout.column(vpe), layout.column(kernel));
-            set_level(cells, from, to, false);
-            set_head(cells, from, to);
+            set_arrow(cells, layout, vpe, kernel);
             if is_answered {
-                set_head(cells, to, from);
+                set_head(cells, layout.column(kernel), layout.column(vpe));
             } else {
                 set_line(layout, vpe, Upright::Waiting);
             }
         }
-        Mark::Ask { kernel, vpe } => {
-            let (from, to) = (layout.column(kernel), layout.column(vpe));
-            set_level(cells, from, to, false);
-            set_head(cells, from, to);
-        }
+        Mark::Ask { kernel, vpe } => set_arrow(cells, layout, kernel, vpe),
         Mark::Answer { kernel, vpe } => {
-            let (from, to) = (layout.column(kernel), layout.column(vpe));
-            set_level(cells, from, to, false);
-            set_head(cells, from, to);
+            set_arrow(cells, layout, kernel, vpe);
             set_line(layout, vpe, Upright::Idle);
         }
         Mark::Sent {

@@ -1,13 +1,33 @@
 // Elements of an SVG picture. If memory is refused, each of these functions may have appended a
 // part.
 use crate::OutOfMemory;
+use crate::lines::number_text;
+use crate::tree::State;
 use std::alloc::Global;
+
+/// The pixels of a character.
+const CHARACTER: u64 = 8;
 
 /// A place in pixels from the left and from the top.
 #[derive(Clone, Copy, Debug)]
 pub struct Point {
     pub x: u64,
     pub y: u64,
+}
+
+/// The pixels of that many bytes of text.
+pub fn text_width(bytes: usize) -> u64 {
+    (bytes as u64).saturating_mul(CHARACTER)
+}
+
+/// The class of what is in that state.
+pub fn state_class(state: State) -> &'static str {
+    match state {
+        State::Held => "held",
+        State::Marked => "marked",
+        State::OnItsWay => "way",
+        State::Gone => "gone",
+    }
 }
 
 /// Appends the text with markup characters escaped.
@@ -116,4 +136,22 @@ pub fn push_circle(
         "<circle class=\"{class}\" cx=\"{x}\" cy=\"{y}\" r=\"{radius}\"/>\n"
     )?;
     out.push_str(circle.as_str())
+}
+
+/// Appends a short line down from that place, and below it the number, a text of that class on that
+/// baseline. Returns the right end of the number.
+pub fn push_tick(
+    alloc: Global,
+    out: &mut String,
+    class: &str,
+    at: Point,
+    baseline: u64,
+    number: u64,
+) -> Result<u64, OutOfMemory> {
+    let Point { x, y } = at;
+    let end = y.saturating_add(5);
+    push_line(alloc, out, "tick", at, Point { x, y: end })?;
+    let text = number_text(alloc, number)?;
+    push_text(alloc, out, class, Point { x, y: baseline }, text.as_str())?;
+    Ok(x.saturating_add(text_width(text.len())))
 }

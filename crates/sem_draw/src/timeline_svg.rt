@@ -1,7 +1,10 @@
 // Timelines as SVG.
 use crate::OutOfMemory;
 use crate::lines::number_text;
-use crate::svg::{Point, push_circle, push_head, push_line, push_rect, push_tail, push_text};
+use crate::svg::{
+    Point, push_circle, push_head, push_rect, push_tail, push_text, push_tick, state_class,
+    text_width,
+};
 use crate::timeline::{Moment, Timeline};
 use crate::tree::State;
 use std::alloc::Global;
@@ -24,28 +27,12 @@ const TOP: u64 = 124;
 /// The place of the line that carries the moments.
 const RAIL: u64 = 96;
 
-/// The pixels of a character, and the gap between things side by side.
-const CHARACTER: u64 = 8;
-
+/// The gap between things side by side.
 const GAP: u64 = 24;
 
 /// The style of the classes.
 const STYLE: &str =
     "text{font:13px 'DejaVu Sans Mono',Menlo,Consolas,monospace;fill:#1f2430}.name{font-weight:bold;fill:#26418f}.number{fill:#7a8194;text-anchor:end}.line,.tick-text{fill:#7a8194}.tick{stroke:#8d95a8}.none{fill:#ffffff;stroke:#c9ccd4;stroke-dasharray:2 3}.held{fill:#a9d0f5;stroke:#1668c1}.marked{fill:#f6c667;stroke:#b57a00}.way{fill:#bfe5c9;stroke:#1b8a3a;stroke-dasharray:4 3}.gone{fill:#f1f1f3;stroke:#a0a4ae;stroke-dasharray:2 3}";
-
-fn class(state: State) -> &'static str {
-    match state {
-        State::Held => "held",
-        State::Marked => "marked",
-        State::OnItsWay => "way",
-        State::Gone => "gone",
-    }
-}
-
-// The pixels of that many bytes of text.
-fn text_width(bytes: usize) -> u64 {
-    (bytes as u64).saturating_mul(CHARACTER)
-}
 
 // The place of the row at that place in the list.
 fn row_y(place: usize) -> u64 {
@@ -126,7 +113,7 @@ fn push_bar(alloc: Global, out: &mut String, timeline: &Timeline) -> Result<(), 
             push_part(alloc, out, timeline, (begin, end), moment.state)?;
         }
         if moment.number.is_some() {
-            free = push_tick(alloc, out, timeline, begin, free)?;
+            free = push_number(alloc, out, timeline, begin, free)?;
         }
     }
     Ok(())
@@ -146,12 +133,12 @@ fn push_part(
         x: width,
         y: HEIGHT,
     };
-    push_rect(alloc, out, class(state), Point { x, y: BAR }, size)
+    push_rect(alloc, out, state_class(state), Point { x, y: BAR }, size)
 }
 
 // Appends a number below the bar, if there is room from `free` on. Returns where there is room
 // then.
-fn push_tick(
+fn push_number(
     alloc: Global,
     out: &mut String,
     timeline: &Timeline,
@@ -163,21 +150,10 @@ fn push_tick(
         return Ok(free);
     }
     let bottom = BAR.saturating_add(HEIGHT);
-    let end = bottom.saturating_add(5);
-    push_line(
-        alloc,
-        out,
-        "tick",
-        Point { x, y: bottom },
-        Point { x, y: end },
-    )?;
-    let text = number_text(alloc, number)?;
-    let at = Point {
-        x,
-        y: bottom.saturating_add(18),
-    };
-    push_text(alloc, out, "tick-text", at, text.as_str())?;
-    Ok(x.saturating_add(text_width(text.len())).saturating_add(8))
+    let baseline = bottom.saturating_add(18);
+    let at = Point { x, y: bottom };
+    let end = push_tick(alloc, out, "tick-text", at, baseline, number)?;
+    Ok(end.saturating_add(8))
 }
 
 // Appends the line that carries the moments, in parts from each to the next one.
@@ -192,7 +168,13 @@ fn push_rail(alloc: Global, out: &mut String, timeline: &Timeline) -> Result<(),
             x: RAIL.saturating_sub(3),
             y: row_y(place),
         };
-        push_rect(alloc, out, class(moment.state), at, Point { x: 6, y: ROW })?;
+        push_rect(
+            alloc,
+            out,
+            state_class(moment.state),
+            at,
+            Point { x: 6, y: ROW },
+        )?;
     }
     Ok(())
 }
@@ -205,7 +187,13 @@ fn push_moment(
     y: u64,
     line_x: u64,
 ) -> Result<(), OutOfMemory> {
-    push_circle(alloc, out, class(moment.state), Point { x: RAIL, y }, 6)?;
+    push_circle(
+        alloc,
+        out,
+        state_class(moment.state),
+        Point { x: RAIL, y },
+        6,
+    )?;
     let base = y.saturating_add(5);
     let number = match moment.number {
         Some(number) => number_text(alloc, number)?,

@@ -2,6 +2,7 @@
 use crate::OutOfMemory;
 use crate::svg::{
     Point, push_head, push_hint, push_hint_end, push_line, push_rect, push_tail, push_text,
+    state_class, text_width,
 };
 use crate::tree::{Node, State, Visit, walk};
 use std::alloc::Global;
@@ -13,22 +14,9 @@ const STEP: u64 = 34;
 
 const EDGE: u64 = 16;
 
-/// The pixels of a character.
-const CHARACTER: u64 = 8;
-
 /// The style of the classes.
 const STYLE: &str =
     "text{font:13px 'DejaVu Sans Mono',Menlo,Consolas,monospace;fill:#1f2430}.link{stroke:#8d95a8;stroke-width:1.5}.held{fill:#e3f0ff;stroke:#1668c1}.marked{fill:#ffe9c2;stroke:#b57a00}.way{fill:#e6f6ea;stroke:#1b8a3a;stroke-dasharray:4 3}.gone{fill:#f1f1f3;stroke:#a0a4ae;stroke-dasharray:2 3}";
-
-// The class of a node.
-fn class(state: State) -> &'static str {
-    match state {
-        State::Held => "held",
-        State::Marked => "marked",
-        State::OnItsWay => "way",
-        State::Gone => "gone",
-    }
-}
 
 // The place of a node at that step of the walk.
 fn corner(place: usize, depth: usize) -> Point {
@@ -36,11 +24,6 @@ fn corner(place: usize, depth: usize) -> Point {
         x: (depth as u64).saturating_mul(STEP).saturating_add(EDGE),
         y: (place as u64).saturating_mul(ROW).saturating_add(EDGE),
     }
-}
-
-// The pixels of that many bytes of text.
-fn text_width(bytes: usize) -> u64 {
-    (bytes as u64).saturating_mul(CHARACTER)
 }
 
 /// The forest as an SVG picture.
@@ -104,7 +87,13 @@ fn push_node(
     }
     push_hint(out, node.hint.as_str())?;
     let width = text_width(node.name.len()).saturating_add(16);
-    push_rect(alloc, out, class(node.state), at, Point { x: width, y: 22 })?;
+    push_rect(
+        alloc,
+        out,
+        state_class(node.state),
+        at,
+        Point { x: width, y: 22 },
+    )?;
     let base = at.y.saturating_add(16);
     let name = Point {
         x: at.x.saturating_add(8),
