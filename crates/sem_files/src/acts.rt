@@ -5,7 +5,7 @@ ghost use Rattle.std.specs.Prelude.{◌∷◌, codes};
 ghost use Rattle.sem_files.specs.FileReads.{ReadsAct};
 
 use crate::files::FileAct;
-use sem_trace::{Cause, Range, Words, is};
+use sem_trace::{Cause, Range, Words};
 
 /// A file, a handle, or the number under which a client receives a file.
 pub(crate) const SMALL: Range = Range { least: 0, most: 15 };
@@ -30,18 +30,13 @@ pub(crate) fn read_act(words: &mut Words<'_>) -> Result<FileAct, Cause>
     ensures { ReadsAct words.old words.new result }
 {
     let name = words.word()?;
-    if is(name, b"open") {
-        open_file(words)
-    } else if is(name, b"read") {
-        read(words)
-    } else if is(name, b"write") {
-        write(words)
-    } else if is(name, b"share") {
-        share(words)
-    } else if is(name, b"close") {
-        close(words)
-    } else {
-        Err(Cause::UnknownWord)
+    match name {
+        b"open" => open_file(words),
+        b"read" => read(words),
+        b"write" => write(words),
+        b"share" => share(words),
+        b"close" => close(words),
+        _ => Err(Cause::UnknownWord),
     }
 }
 
