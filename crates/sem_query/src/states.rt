@@ -8,12 +8,10 @@ use sem_msg::Parked;
 pub fn same_state(one: &Option<Parked>, other: &Option<Parked>) -> bool
     ensures { IsTrue result ↔ (one.now ≡ other.now) }
 {
-    match one {
-        Some(one) => match other {
-            Some(other) => same_parked(one, other),
-            None => false,
-        },
-        None => other.is_none(),
+    match (one, other) {
+        (Some(one), Some(other)) => same_parked(one, other),
+        (None, None) => true,
+        _ => false,
     }
 }
 
@@ -21,44 +19,30 @@ pub fn same_state(one: &Option<Parked>, other: &Option<Parked>) -> bool
 fn same_parked(one: &Parked, other: &Parked) -> bool
     ensures { IsTrue result ↔ (one.now ≡ other.now) }
 {
-    match one {
-        Parked::ObtainWait { number, sel } => match other {
-            Parked::ObtainWait { number: n, sel: s } => number == n && sel == s,
-            _ => false,
-        },
-        Parked::ObtainReady {
-            key,
-            parent,
-            object,
-            sel,
-        } => match other {
+    match (one, other) {
+        (Parked::ObtainWait { number, sel }, Parked::ObtainWait { number: n, sel: s }) => {
+            number == n && sel == s
+        }
+        (
+            Parked::ObtainReady {
+                key,
+                parent,
+                object,
+                sel,
+            },
             Parked::ObtainReady {
                 key: k,
                 parent: p,
                 object: o,
                 sel: s,
-            } => key == k && parent == p && same_object(object, o) && sel == s,
-            _ => false,
-        },
-        Parked::ObtainCancelled => match other {
-            Parked::ObtainCancelled => true,
-            _ => false,
-        },
-        Parked::DelegateWait { parent } => match other {
-            Parked::DelegateWait { parent: p } => parent == p,
-            _ => false,
-        },
-        Parked::DelegateReady { parent, key } => match other {
-            Parked::DelegateReady { parent: p, key: k } => parent == p && key == k,
-            _ => false,
-        },
-        Parked::RevokeWait { job } => match other {
-            Parked::RevokeWait { job: j } => job == j,
-            _ => false,
-        },
-        Parked::Ready { code } => match other {
-            Parked::Ready { code: c } => code == c,
-            _ => false,
-        },
+            },
+        ) => key == k && parent == p && same_object(object, o) && sel == s,
+        (Parked::ObtainCancelled, Parked::ObtainCancelled) => true,
+        (Parked::DelegateWait { parent }, Parked::DelegateWait { parent: p }) => parent == p,
+        (Parked::DelegateReady { parent, key }, Parked::DelegateReady { parent: p, key: k }) =>
+            parent == p && key == k,
+        (Parked::RevokeWait { job }, Parked::RevokeWait { job: j }) => job == j,
+        (Parked::Ready { code }, Parked::Ready { code: c }) => code == c,
+        _ => false,
     }
 }
