@@ -34,83 +34,36 @@ pub struct CallForm {
     pub slots: &'static [Slot],
 }
 
+// The form of a name, a kind and the slots behind the name.
+macro_rules! form {
+    ($name:literal, $kind:ident, [$($slot:ident),*]) => {
+        CallForm {
+            name: $name,
+            kind: CallKind::$kind,
+            slots: &[$(Slot::$slot),*],
+        }
+    };
+}
+
 static CALL_FORMS: [CallForm; 14] = [
-    CallForm {
-        name: b"derive",
-        kind: CallKind::Derive,
-        slots: &[
-            Slot::Selector,
-            Slot::Selector,
-            Slot::Offset,
-            Slot::Length,
-            Slot::Rights,
-        ],
-    },
-    CallForm {
-        name: b"gate",
-        kind: CallKind::Gate,
-        slots: &[Slot::Selector, Slot::Selector, Slot::Label, Slot::Credits],
-    },
-    CallForm {
-        name: b"obtain",
-        kind: CallKind::Obtain,
-        slots: &[Slot::Selector, Slot::Vpe, Slot::Selector],
-    },
-    CallForm {
-        name: b"delegate",
-        kind: CallKind::Delegate,
-        slots: &[Slot::Selector, Slot::Vpe, Slot::Selector],
-    },
-    CallForm {
-        name: b"open",
-        kind: CallKind::OpenSession,
-        slots: &[Slot::Selector, Slot::ServiceName],
-    },
-    CallForm {
-        name: b"ask",
-        kind: CallKind::AskOffer,
-        slots: &[Slot::Selector, Slot::Selector, Slot::OfferIndex],
-    },
-    CallForm {
-        name: b"revoke",
-        kind: CallKind::Revoke,
-        slots: &[Slot::Selector],
-    },
-    CallForm {
-        name: b"bind",
-        kind: CallKind::Bind,
-        slots: &[Slot::Endpoint, Slot::Selector],
-    },
-    CallForm {
-        name: b"read",
-        kind: CallKind::Read,
-        slots: &[Slot::Endpoint, Slot::Offset, Slot::Length],
-    },
-    CallForm {
-        name: b"write",
-        kind: CallKind::Write,
-        slots: &[Slot::Endpoint, Slot::Offset, Slot::Length],
-    },
-    CallForm {
-        name: b"send",
-        kind: CallKind::Send,
-        slots: &[Slot::Endpoint, Slot::Length],
-    },
-    CallForm {
-        name: b"credit",
-        kind: CallKind::Credit,
-        slots: &[Slot::Endpoint],
-    },
-    CallForm {
-        name: b"exit",
-        kind: CallKind::Exit,
-        slots: &[],
-    },
-    CallForm {
-        name: b"clear",
-        kind: CallKind::Clear,
-        slots: &[Slot::Selector],
-    },
+    form!(
+        b"derive",
+        Derive,
+        [Selector, Selector, Offset, Length, Rights]
+    ),
+    form!(b"gate", Gate, [Selector, Selector, Label, Credits]),
+    form!(b"obtain", Obtain, [Selector, Vpe, Selector]),
+    form!(b"delegate", Delegate, [Selector, Vpe, Selector]),
+    form!(b"open", OpenSession, [Selector, ServiceName]),
+    form!(b"ask", AskOffer, [Selector, Selector, OfferIndex]),
+    form!(b"revoke", Revoke, [Selector]),
+    form!(b"bind", Bind, [Endpoint, Selector]),
+    form!(b"read", Read, [Endpoint, Offset, Length]),
+    form!(b"write", Write, [Endpoint, Offset, Length]),
+    form!(b"send", Send, [Endpoint, Length]),
+    form!(b"credit", Credit, [Endpoint]),
+    form!(b"exit", Exit, []),
+    form!(b"clear", Clear, [Selector]),
 ];
 
 impl CallForm {
