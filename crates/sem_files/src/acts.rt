@@ -29,8 +29,7 @@ const SIZE: Range = Range {
 pub(crate) fn read_act(words: &mut Words<'_>) -> Result<FileAct, Cause>
     ensures { ReadsAct words.old words.new result }
 {
-    let name = words.word()?;
-    match name {
+    match words.word()? {
         b"open" => open_file(words),
         b"read" => read(words),
         b"write" => write(words),

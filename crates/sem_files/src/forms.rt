@@ -12,7 +12,7 @@ ghost use Rattle.sem_files.specs.FileReads.{ReadsWords, ReadsLine};
 use crate::acts::{CLIENT, SMALL, read_act};
 use crate::files::{Command, FileDecl};
 use crate::lines::FileLine;
-use sem_trace::{Cause, LineFault, Range, Words, is};
+use sem_trace::{Cause, LineFault, Range, Words};
 
 /// How many kernels there are.
 const KERNELS: Range = Range { least: 1, most: 16 };
@@ -49,26 +49,6 @@ pub(crate) fn read_line(line: &[u8]) -> Result<FileLine, LineFault>
     match read_words(&mut words) {
         Ok(said) => Ok(said),
         Err(cause) => Err(words.fault_in(line, cause)),
-    }
-}
-
-// What the words of a line after the second say.
-fn read_words(words: &mut Words<'_>) -> Result<FileLine, Cause>
-    ensures { ReadsWords words.old words.new result }
-{
-    let name = words.word()?;
-    if is(name, b"kernels") {
-        kernels_line(words)
-    } else if is(name, b"file") {
-        file_line(words)
-    } else if is(name, b"client") {
-        client_line(words)
-    } else if is(name, b"do") {
-        do_line(words)
-    } else if is(name, b"end") {
-        end_line(words)
-    } else {
-        Err(Cause::UnknownWord)
     }
 }
 
@@ -118,4 +98,18 @@ fn end_line(words: &mut Words<'_>) -> Result<FileLine, Cause>
 {
     words.no_more()?;
     Ok(FileLine::End)
+}
+
+// What the words of a line after the second say.
+fn read_words(words: &mut Words<'_>) -> Result<FileLine, Cause>
+    ensures { ReadsWords words.old words.new result }
+{
+    match words.word()? {
+        b"kernels" => kernels_line(words),
+        b"file" => file_line(words),
+        b"client" => client_line(words),
+        b"do" => do_line(words),
+        b"end" => end_line(words),
+        _ => Err(Cause::UnknownWord),
+    }
 }
