@@ -35,7 +35,7 @@ use Rattle.sem_safety.proofs.Noted.{history-cut}
 use Rattle.sem_revoke.proofs.Lasting.{call-step}
 use Rattle.sem_revoke.proofs.Serving.{tells, fold-push}
 use Rattle.sem_fs.specs.Service.{IsService, MayComeNext}
-use Rattle.sem_fs.proofs.CallCuts.{CutsNone, act-cuts}
+use Rattle.sem_revoke.proofs.Cuts.{CutsNone, act-cuts}
 
 -- the key that a call revokes, if it revokes one
 abbrev pub Cuts : Side → ℕ → Call → KeyName → Type 0

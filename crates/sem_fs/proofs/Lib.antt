@@ -8,7 +8,6 @@ mod ServedWorlds
 mod Slots
 mod Still
 mod Courses
-mod CallCuts
 mod Cutting
 mod Owned
 mod Staying

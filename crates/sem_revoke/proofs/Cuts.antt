@@ -51,8 +51,8 @@ use Rattle.sem_revoke.proofs.Readying.{enabled-low}
 use Rattle.sem_key.proofs.KeyTests.{Contains-from_has_key, has_key-from_Contains}
 use Rattle.sem_revoke.proofs.Waits.{Resting}
 
--- Calls alone cut off.
-abbrev CutsNone : Step → Type 0
+-- of all acts, calls alone cut off
+abbrev pub CutsNone : Step → Type 0
 CutsNone x = ◌≡◌ {A = Option KeyName} x.outcome.cut None
 
 upcall-cuts : (T : Setup) (i : ℕ) (s : Side) (v : ℕ) → CutsNone (upcall_row T i s v)
@@ -92,7 +92,7 @@ resume-cuts T s v = by (parked s v)
     by (Some (RevokeWait j)) = refl
     by (Some (Ready code)) = refl
 
-act-cuts : (T : Setup) (i : ℕ) (s : Side) (a : Act) (input : Option Message) (r : KeyName) →
+pub act-cuts : (T : Setup) (i : ℕ) (s : Side) (a : Act) (input : Option Message) (r : KeyName) →
     ◌≡◌ {A = Option KeyName} (local_step T i s a input).outcome.cut (Some r) → (v : ℕ) × (a ≡ Calls v)
 unfolding local_step
 act-cuts T i s (Calls v) input r some = (v, refl)
