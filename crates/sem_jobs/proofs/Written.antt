@@ -4,7 +4,7 @@ use Rattle.slab.specs.Slab.{Slab, get, with_value, ContainsKey}
 use Rattle.sem_msg.specs.Rows.{JobRow}
 use Rattle.sem_msg.specs.JobRows.{job_of, job_changed, ids_of}
 use Rattle.sem_jobs.specs.declared.spot.IdSpot.{IdSpot}
-use Rattle.sem_jobs.specs.JobStore.{HasRisingIds, IsPlaceOf}
+use Rattle.sem_jobs.specs.JobStore.{JobStore, HasRisingIds, IsPlaceOf}
 use Rattle.sem_jobs.specs.Stored.{rows_of, IsPlaced}
 use Rattle.sem_jobs.proofs.Places.{length-rows, contains-here, row-read, rows-set, placed-set}
 use Rattle.sem_jobs.proofs.JobPlaces.{ids-set, found, changed}
@@ -23,6 +23,13 @@ pub record IsOpenAt (slab : Slab JobRow) (spots : List IdSpot) (next j at : ℕ)
   pub place : IsPlaceOf (rows_of slab spots) j at
   pub read : spot ≡ get_or spots at spot
   pub value : get slab spot.place ≡ Some row
+
+-- a job that was found by its id among those of the store, with the place that was borrowed
+pub opened : {slab : Slab JobRow} {spots : List IdSpot} {next spare j at : ℕ} {spot : IdSpot} {row : JobRow} {now : JobStore} →
+    ◌≡◌ {A = JobStore} (record { jobs = rows_of slab spots; next = next; spare = spare }) now →
+    HasRisingIds (ids_of (rows_of slab spots)) next × IsPlaced slab spots → IsPlaceOf now.jobs j at → spot ≡ get_or spots at spot →
+    get slab spot.place ≡ Some row → IsOpenAt slab spots next j at spot row
+opened view_is stored place read value = record { stored = stored; place = rw (← view_is) at place; read = read; value = value }
 
 module _ {slab : Slab JobRow} {spots : List IdSpot} {next j at : ℕ} {spot : IdSpot} {row : JobRow} (open_at : IsOpenAt slab spots next j at spot row) where
   abbrev rows : List JobRow
