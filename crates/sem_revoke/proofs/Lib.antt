@@ -50,6 +50,7 @@ pub mod Above
 pub mod Asking
 pub mod Dying
 pub mod Ways
+pub mod Flights
 pub mod Obtained
 pub mod Consents
 pub mod Delegations

@@ -1,9 +1,7 @@
 -- A live key has an object: what an Ack brings is pending.
-use Rattle.std.proofs.Common.{◌≡◌, ℕ, ◌+◌, ◌≤◌, ◌++◌, true, List, [], ◌∷◌, get_or, Option, Some, None, IsSome, refl, ap, inl, inr, arith}
-use Rattle.std.specs.Prelude.{◌==◌}
-use Rattle.std.specs.List.{Contains, sum_by}
-use Rattle.std.proofs.lemmas.Bool.{cases_Bool, cond-true, cond-false}
-use Rattle.std.proofs.lemmas.List.Sums.{sum_by-append, sum_by-cons}
+use Rattle.std.proofs.Common.{◌≡◌, ℕ, ◌≤◌, true, List, Option, Some, None, IsSome, refl, inl, inr, arith}
+use Rattle.std.specs.List.{Contains}
+use Rattle.std.proofs.lemmas.Bool.{cond-true}
 use Rattle.sem_key.specs.declared.object.Object.{Object}
 use Rattle.sem_key.specs.KeyName.{KeyName, key_eq}
 use Rattle.sem_key.specs.Capability.{Capability}
@@ -13,39 +11,17 @@ use Rattle.sem_msg.specs.declared.message.Message.{Message}
 use Rattle.sem_msg.specs.declared.message.Message.TheVariants.{Ack}
 use Rattle.sem_msg.specs.Setup.{Setup, IsSetup}
 use Rattle.sem_msg.specs.Lookups.{owner_of}
-use Rattle.sem_machine.specs.Sides.{no_side, cap, outbox}
-use Rattle.sem_machine.specs.Machine.{World, side, link}
+use Rattle.sem_machine.specs.Sides.{cap}
+use Rattle.sem_machine.specs.Machine.{World, side}
 use Rattle.sem_machine.specs.Schedules.{IsSchedule, world_after}
-use Rattle.sem_machine.specs.Living.{way, fetched_from, HasObject, as_held, as_granted, as_ready, as_pending, IsLive}
-use Rattle.sem_machine.proofs.Weighing.{weigh-among}
-use Rattle.sem_safety.proofs.HeldOnce.{weigh-at}
-use Rattle.sem_revoke.specs.Delegations.{of_key, of_message, of_messages, of_inbox, of_side, of_links, of_world}
+use Rattle.sem_machine.specs.Living.{way, HasObject, as_held, as_granted, as_ready, as_pending, IsLive}
+use Rattle.sem_revoke.specs.Delegations.{of_key, of_message, of_inbox, of_side, of_world}
 use Rattle.sem_revoke.proofs.DelegationWorlds.{each-pends}
+use Rattle.sem_revoke.proofs.Flights.{flight-weighs}
 
 -- a token in flight is among the tokens of the world
 flight-counts : (k : KeyName) (W : World) (a b : ℕ) (m : Message) → Contains (way W a b) m → 1 ≤ of_message k m → 1 ≤ of_world k W
-flight-counts k W a b m among some =
-    let weighs = weigh-among (of_message k) (way W a b) m among in
-    let one = sum_by-append (of_message k) (fetched_from a (side W b).inbox ++ link W a b) (outbox (side W a) b) in
-    let two = sum_by-append (of_message k) (fetched_from a (side W b).inbox) (link W a b) in
-    let inbox = fetched (side W b).inbox in
-    let side-b = weigh-at (of_side k) no_side refl W.sides b in
-    let side-a = weigh-at (of_side k) no_side refl W.sides a in
-    let outs = weigh-at (of_messages k) [] refl (side W a).outs b in
-    let row-a = weigh-at (λ ls. sum_by (of_messages k) ls) [] refl W.links a in
-    let cell = weigh-at (of_messages k) [] refl (get_or W.links a []) b in
-    positive (sum_by (of_side k) W.sides) (of_links k W.links) (omega (arith, weighs, one, two, inbox, side-b, side-a, outs, row-a, cell, some))
-  where
-    fetched : (o : Option (ℕ × Message)) → of_messages k (fetched_from a o) ≤ of_inbox k o
-    fetched None = omega arith
-    fetched (Some x) = elim (cases_Bool (x.0 == a)) [
-      | inl same ↦ let is = ap (of_messages k) (cond-true (x.0 == a) (x.1 ∷ []) [] same) in let all = sum_by-cons (of_message k) x.1 [] in
-          omega (arith, is, all)
-      | inr other ↦ let is = ap (of_messages k) (cond-false (x.0 == a) (x.1 ∷ []) [] other) in omega (arith, is)
-    ]
-
-    positive : (x y : ℕ) → 1 ≤ x + (x + y) → 1 ≤ x + y
-    positive x y more = omega (arith, more)
+flight-counts k W = flight-weighs (of_message k) (of_inbox k) (of_side k) refl (λ x. omega arith) (λ s. omega arith) W
 
 pub live-object : (T : Setup) → IsSetup T → (J : List Entry) → IsSchedule T J → (k : KeyName) → IsLive (world_after T J) k →
     (object : Object) × HasObject (world_after T J) k object

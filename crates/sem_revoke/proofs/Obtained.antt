@@ -1,11 +1,10 @@
 -- What an ObtainOk brings is not lost: its VPE waits for it, or has ended.
-use Rattle.std.proofs.Common.{◌≡◌, ◌⊎◌, ℕ, ◌+◌, ◌≤◌, ◌++◌, Bool, true, false, not, ◌&&◌, ◌||◌, List, [], ◌∷◌, get_or, Option, Some, None, append-nil}
+use Rattle.std.proofs.Common.{◌≡◌, ◌⊎◌, ℕ, ◌≤◌, ◌++◌, Bool, true, false, not, ◌&&◌, ◌||◌, List, [], ◌∷◌, Option, Some, None, append-nil}
 use Rattle.std.proofs.Common.{append_assoc, refl, sym, ap, ◌∙◌, subst, inl, inr, arith, eq-eqb, length}
 use Rattle.std.specs.Prelude.{◌==◌, if◌then◌else◌}
-use Rattle.std.specs.List.{Contains, sum_by}
+use Rattle.std.specs.List.{Contains}
 use Rattle.std.specs.Option.{option_map_or}
 use Rattle.std.proofs.lemmas.Bool.{cases_Bool, cond-true, cond-false, and_parts, ne_eqb, eqb-true, true≢false}
-use Rattle.std.proofs.lemmas.List.Sums.{sum_by-append, sum_by-cons}
 use Rattle.std.proofs.lemmas.List.Elements.{Contains-append_left, filter_map-append}
 use Rattle.sem_key.specs.declared.object.Object.{Object}
 use Rattle.sem_key.specs.declared.object.Object.TheVariants.{Mem, Recv, Send, Serv, Sess}
@@ -22,26 +21,25 @@ use Rattle.sem_msg.specs.declared.setup.VpeDecl.{VpeDecl}
 use Rattle.sem_msg.specs.declared.state.Parked.TheVariants.{ObtainWait, ObtainReady}
 use Rattle.sem_msg.specs.Setup.{Setup, IsSetup}
 use Rattle.sem_msg.specs.Lookups.{decl, pe_owner, owner_of, kernel_of}
-use Rattle.sem_machine.specs.Sides.{Side, no_side, cap, parked, is_alive, outbox, send, with_inbox}
+use Rattle.sem_machine.specs.Sides.{Side, cap, parked, is_alive, send, with_inbox}
 use Rattle.sem_machine.specs.Asks.{is_obtain_wait}
 use Rattle.sem_machine.specs.Handles.{is_key_declared, is_object_declared, is_here, lives_without, is_stray, obtain_ready, handle_row, handled}
-use Rattle.sem_machine.specs.Machine.{World, side, link, local_step, input_of}
+use Rattle.sem_machine.specs.Machine.{World, side, local_step, input_of}
 use Rattle.sem_machine.specs.Schedules.{IsSchedule, world_after}
 use Rattle.sem_machine.specs.Journals.{grants, ends, has_ended}
-use Rattle.sem_machine.specs.Living.{way, fetched_from, InFlight, IsLive}
+use Rattle.sem_machine.specs.Living.{way, InFlight, IsLive}
 use Rattle.sem_machine.specs.Living.HasObject.{as_granted}
 use Rattle.sem_machine.specs.Sound.{IsObjectNamed}
 use Rattle.sem_machine.proofs.Weighing.{weigh-among}
 use Rattle.sem_safety.proofs.GrownLines.{line-self}
-use Rattle.sem_safety.proofs.HeldOnce.{weigh-at}
 use Rattle.sem_safety.proofs.Lives.{at_message}
 use Rattle.sem_sound.proofs.Scheduling.{schedule-sound}
-use Rattle.sem_safety.proofs.AskWeights.{here, of_message, of_messages, of_inbox}
-use Rattle.sem_safety.proofs.AskWorlds.{of_links}
+use Rattle.sem_safety.proofs.AskWeights.{here, of_message, of_inbox}
 use Rattle.sem_revoke.specs.Revocation.{IsDoomed}
 use Rattle.sem_revoke.proofs.Arriving.{schedule-revokes}
 use Rattle.sem_revoke.proofs.Asking.{Waits, rest, HasAbout, waits-on, all-awaited}
 use Rattle.sem_revoke.proofs.Dying.{dead-ended}
+use Rattle.sem_revoke.proofs.Flights.{flight-weighs}
 use Rattle.sem_revoke.proofs.Lasting.{all-caused, at, side-here}
 use Rattle.sem_revoke.proofs.Narrowness.{all-narrowing}
 use Rattle.sem_revoke.proofs.Readying.{enabled-low, schedule-tidy, schedule-homes}
@@ -55,28 +53,7 @@ or-false false b no' is = is
 
 -- of a message in flight something is about
 pub flight-about : (W : World) (v a b : ℕ) (m : Message) → Contains (way W a b) m → 1 ≤ of_message v m → HasAbout W v
-flight-about W v a b m among some =
-    let weighs = weigh-among (of_message v) (way W a b) m among in
-    let one = sum_by-append (of_message v) (fetched_from a (side W b).inbox ++ link W a b) (outbox (side W a) b) in
-    let two = sum_by-append (of_message v) (fetched_from a (side W b).inbox) (link W a b) in
-    let inbox = fetched (side W b).inbox in
-    let side-b = weigh-at (rest v) no_side refl W.sides b in
-    let side-a = weigh-at (rest v) no_side refl W.sides a in
-    let outs = weigh-at (of_messages v) [] refl (side W a).outs b in
-    let row-a = weigh-at (λ ls. sum_by (of_messages v) ls) [] refl W.links a in
-    let cell = weigh-at (of_messages v) [] refl (get_or W.links a []) b in
-    positive (sum_by (rest v) W.sides) (of_links v W.links) (omega (arith, weighs, one, two, inbox, side-b, side-a, outs, row-a, cell, some))
-  where
-    fetched : (o : Option (ℕ × Message)) → of_messages v (fetched_from a o) ≤ of_inbox v o
-    fetched None = omega arith
-    fetched (Some x) = elim (cases_Bool (x.0 == a)) [
-      | inl same ↦ let is = ap (of_messages v) (cond-true (x.0 == a) (x.1 ∷ []) [] same) in let all = sum_by-cons (of_message v) x.1 [] in
-          omega (arith, is, all)
-      | inr other ↦ let is = ap (of_messages v) (cond-false (x.0 == a) (x.1 ∷ []) [] other) in omega (arith, is)
-    ]
-
-    positive : (x y : ℕ) → 1 ≤ x + (x + y) → 1 ≤ x + y
-    positive x y more = omega (arith, more)
+flight-about W v = flight-weighs (of_message v) (of_inbox v) (rest v) refl (λ x. omega arith) (λ s. omega arith) W
 
 -- the kernel of a VPE owns its keys
 pub kernel-owner : (T : Setup) (k : KeyName) → is_key_declared T k ≡ true → kernel_of T k.vpe ≡ owner_of T k
