@@ -42,7 +42,7 @@ use Rattle.sem_machine.specs.Calls.{next_key, next_place, child_made, session_se
 use Rattle.sem_machine.specs.Calls.{open_tests, offer_tests, offer_made, delegate_tests, bind_tests, call_row, destination_tests}
 use Rattle.sem_machine.specs.Upcalls.{source, source_tests, given, given_kind, given_here, child_given, parent_tests, delegate_prepared, consented, ask_decided}
 use Rattle.sem_machine.specs.Upcalls.{upcall_row}
-use Rattle.sem_machine.specs.Handles.{is_key_declared, is_place_declared, is_target_declared, is_object_declared, is_here, obtain_ready, acknowledged, handled}
+use Rattle.sem_machine.specs.Handles.{is_key_declared, is_place_declared, is_target_declared, is_object_declared, is_here, acknowledged, handled}
 use Rattle.sem_machine.specs.Resumes.{delegate_granted, delegate_resumed, resumed, resume_row}
 use Rattle.sem_machine.specs.Ends.{ask_ended, call_ended, keys_of, revoked_if_left, ended}
 use Rattle.sem_machine.specs.Sound.{IsSound, IsNamed, IsObjectNamed, IsTargetNamed, IsSoundAsk}
@@ -56,6 +56,7 @@ use Rattle.sem_revoke.proofs.Growing.{is_plain}
 use Rattle.sem_revoke.proofs.Obtained.{or-false}
 use Rattle.sem_revoke.proofs.Scaling.{side-send}
 use Rattle.sem_revoke.proofs.Steady.{IsSteady, rest-steady, revoked-steady, cleared-steady, requested-steady, done-steady, left_job-steady}
+use Rattle.sem_revoke.proofs.Steady.{promise_freed-steady, obtain_ready-steady}
 use Rattle.sem_revoke.proofs.Waits.{parked-here, parked-other}
 use Rattle.sem_msg.specs.ParkedStates.{state_of}
 use Rattle.sem_msg.specs.Rows.{VpeRow}
@@ -149,18 +150,9 @@ module _ (T : Setup) (valid : IsSetup T) (i : ℕ) (few : i < T.kernels) (n : �
 
   -- Refusals.
   refused-right : (code : Code) (a : Ask) → is_declared_asker T a ≡ true → (t : Side) → Right t → Right (ask_refused T i code a t)
-  refused-right code a declared t is = cond_both (kernel_of T (asker a) == i) _ _ Right (λ _. free (parked t (asker a)) (asker a)) (λ _. sends a declared)
+  refused-right code a declared t is = cond_both (kernel_of T (asker a) == i) _ _ Right
+      (λ _. promise_freed-steady Right steady t is (parked t (asker a)) (asker a)) (λ _. sends a declared)
     where
-      free : (p : Option Parked) (v : ℕ) → Right (promise_freed p v t)
-      free None v = is
-      free (Some (ObtainWait number sel)) v = is
-      free (Some (ObtainReady key parent object sel)) v = is
-      free (Some ObtainCancelled) v = is
-      free (Some (DelegateWait parent)) v = is
-      free (Some (DelegateReady parent key)) v = is
-      free (Some (RevokeWait j)) v = is
-      free (Some (Ready number)) v = is
-
       sends : (b : Ask) → is_declared_asker T b ≡ true → Right (refusal_sent T code b t)
       sends (ObtainAsk place target) declared =
           right-send t (place_owner T place) (ObtainNo place (code_number code))
@@ -431,40 +423,20 @@ module _ (T : Setup) (valid : IsSetup T) (i : ℕ) (few : i < T.kernels) (n : �
     asked_delegate = λ parent object vpe sel of. is;
     dead_delegate = λ parent object vpe sel of. refused-right Dead (DelegateAsk parent object sel)
         (not-not (is_key_declared T parent) (not-first (not (is_key_declared T parent)) _ (sym (ap (is_misaddressed T i) of) ∙ right)).0) s is;
-    given = λ parent key object of. ready parent key object (parked s key.vpe);
+    given = λ parent key object of. obtain_ready-steady Right steady parent key object s is (λ sel. is) (parked s key.vpe);
     orphaned = λ parent key object of. right-send s (owner_of T parent) (Orphan parent key) refl is;
-    no_obtain = λ place code of. free (parked s place.vpe) place.vpe;
+    no_obtain = λ place code of. promise_freed-steady Right steady s is (parked s place.vpe) place.vpe;
     prepared = λ parent key of. is;
     given_up = λ parent key of. acked-right key false
         (not-not (is_key_declared T key)
         (not-first (not (is_key_declared T key)) _ (not-first (not (is_key_declared T parent)) _ (sym (ap (is_misaddressed T i) of) ∙ right)).1).0) s is;
-    no_delegate = λ parent code of. free (parked s parent.vpe) parent.vpe;
+    no_delegate = λ parent code of. promise_freed-steady Right steady s is (parked s parent.vpe) parent.vpe;
     acked = λ key accepted p of there. acks key accepted p;
     unlinks = λ parent key. is;
     requests = λ key j of. requested-steady Right steady T i from j key (cap s key) s (λ u ready' same here. here) is;
     dones = λ j of. done-steady Right steady T i j s is;
   })
     where
-      free : (p : Option Parked) (v : ℕ) → Right (promise_freed p v s)
-      free None v = is
-      free (Some (ObtainWait number sel)) v = is
-      free (Some (ObtainReady key parent object sel)) v = is
-      free (Some ObtainCancelled) v = is
-      free (Some (DelegateWait parent)) v = is
-      free (Some (DelegateReady parent key)) v = is
-      free (Some (RevokeWait j)) v = is
-      free (Some (Ready number)) v = is
-
-      ready : (parent key : KeyName) (object : Object) (p : Option Parked) → Right (obtain_ready parent key object p s)
-      ready parent key object None = is
-      ready parent key object (Some (ObtainWait number sel)) = is
-      ready parent key object (Some (ObtainReady key' parent' object' sel)) = is
-      ready parent key object (Some ObtainCancelled) = is
-      ready parent key object (Some (DelegateWait parent')) = is
-      ready parent key object (Some (DelegateReady parent' key')) = is
-      ready parent key object (Some (RevokeWait j)) = is
-      ready parent key object (Some (Ready code)) = is
-
       acks : (key : KeyName) (accepted : Bool) (p : Pending) → Right (acknowledged T key accepted s p)
       acks key true p =
           cond_both (is_alive s key.vpe) _ _ Right (λ _. is) (λ _. right-send (pending_removed key s) (owner_of T p.parent) (Orphan p.parent key) refl is)

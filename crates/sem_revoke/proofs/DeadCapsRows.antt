@@ -26,16 +26,17 @@ use Rattle.sem_msg.specs.Setup.{Setup}
 use Rattle.sem_msg.specs.Lookups.{kernel_of}
 use Rattle.sem_machine.specs.Sides.{Side, row, cap, own, parked, is_alive, drawn, unparked, buried, ask_taken, linked, installed, job_opened, pending_removed}
 use Rattle.sem_machine.specs.Steps.{Step, plain}
-use Rattle.sem_machine.specs.Asks.{target_vpe, asker, is_unawaited, promise_freed, refusal_sent, ask_refused}
+use Rattle.sem_machine.specs.Asks.{target_vpe, asker, is_unawaited, refusal_sent, ask_refused}
 use Rattle.sem_machine.specs.Calls.{next_key, call_row}
 use Rattle.sem_machine.specs.Upcalls.{given, given_kind, given_here, ask_decided, upcall_row}
-use Rattle.sem_machine.specs.Handles.{obtain_ready, acknowledged, handled}
+use Rattle.sem_machine.specs.Handles.{acknowledged, handled}
 use Rattle.sem_machine.specs.Resumes.{delegate_granted, delegate_resumed, resumed, resume_row}
 use Rattle.sem_machine.specs.Ends.{ask_ended, call_ended, keys_of, revoked_if_left, ended}
 use Rattle.sem_machine.proofs.Folds.{in_turn-keeps, option-keeps}
 use Rattle.sem_safety.proofs.Skeleton.{decided-by, call_row-by, handled-by}
 use Rattle.sem_revoke.proofs.DeadCaps.{Unkept, Buried, buried-steady}
 use Rattle.sem_revoke.proofs.Steady.{unlinked-steady, rest-steady, revoked-steady, cleared-steady, requested-steady, done-steady, left_job-steady}
+use Rattle.sem_revoke.proofs.Steady.{promise_freed-steady, obtain_ready-steady}
 
 module _ (k : KeyName) (T : Setup) (i : ℕ) where
   abbrev B : Side → Type 0
@@ -68,18 +69,9 @@ module _ (k : KeyName) (T : Setup) (i : ℕ) where
   )
 
   refused-buried : (code : Code) (a : Ask) (t : Side) → B t → B (ask_refused T i code a t)
-  refused-buried code a t is = cond_both (kernel_of T (asker a) == i) _ _ B (λ _. free (parked t (asker a)) (asker a)) (λ _. sends a)
+  refused-buried code a t is = cond_both (kernel_of T (asker a) == i) _ _ B
+      (λ _. promise_freed-steady B (buried-steady k) t is (parked t (asker a)) (asker a)) (λ _. sends a)
     where
-      free : (p : Option Parked) (v : ℕ) → B (promise_freed p v t)
-      free None v = is
-      free (Some (ObtainWait number sel)) v = is
-      free (Some (ObtainReady key parent object sel)) v = is
-      free (Some ObtainCancelled) v = is
-      free (Some (DelegateWait parent)) v = is
-      free (Some (DelegateReady parent key)) v = is
-      free (Some (RevokeWait j)) v = is
-      free (Some (Ready number)) v = is
-
       sends : (b : Ask) → B (refusal_sent T code b t)
       sends (ObtainAsk place target) = is
       sends (DelegateAsk parent object sel) = is
@@ -211,38 +203,18 @@ module _ (k : KeyName) (T : Setup) (i : ℕ) where
     dead_obtain = λ place target of. refused-buried Dead (ObtainAsk place target) s is;
     asked_delegate = λ parent object vpe sel of. is;
     dead_delegate = λ parent object vpe sel of. refused-buried Dead (DelegateAsk parent object sel) s is;
-    given = λ parent key object of. ready parent key object (parked s key.vpe);
+    given = λ parent key object of. obtain_ready-steady B (buried-steady k) parent key object s is (λ sel. is) (parked s key.vpe);
     orphaned = λ parent key object of. is;
-    no_obtain = λ place code of. free (parked s place.vpe) place.vpe;
+    no_obtain = λ place code of. promise_freed-steady B (buried-steady k) s is (parked s place.vpe) place.vpe;
     prepared = λ parent key of. is;
     given_up = λ parent key of. is;
-    no_delegate = λ parent code of. free (parked s parent.vpe) parent.vpe;
+    no_delegate = λ parent code of. promise_freed-steady B (buried-steady k) s is (parked s parent.vpe) parent.vpe;
     acked = λ key accepted p of there. acks key accepted p;
     unlinks = λ parent key. unlinked-steady B (buried-steady k) parent key s is;
     requests = λ key j of. requested-steady B (buried-steady k) T i from j key (cap s key) s (λ u ready' same here. here) is;
     dones = λ j of. done-steady B (buried-steady k) T i j s is;
   })
     where
-      free : (p : Option Parked) (v : ℕ) → B (promise_freed p v s)
-      free None v = is
-      free (Some (ObtainWait number sel)) v = is
-      free (Some (ObtainReady key parent object sel)) v = is
-      free (Some ObtainCancelled) v = is
-      free (Some (DelegateWait parent)) v = is
-      free (Some (DelegateReady parent key)) v = is
-      free (Some (RevokeWait j)) v = is
-      free (Some (Ready number)) v = is
-
-      ready : (parent key : KeyName) (object : Object) (p : Option Parked) → B (obtain_ready parent key object p s)
-      ready parent key object None = is
-      ready parent key object (Some (ObtainWait number sel)) = is
-      ready parent key object (Some (ObtainReady key' parent' object' sel)) = is
-      ready parent key object (Some ObtainCancelled) = is
-      ready parent key object (Some (DelegateWait parent')) = is
-      ready parent key object (Some (DelegateReady parent' key')) = is
-      ready parent key object (Some (RevokeWait j)) = is
-      ready parent key object (Some (Ready code)) = is
-
       acks : (key : KeyName) (accepted : Bool) (p : Pending) → B (acknowledged T key accepted s p)
       acks key true p =
           cond_both (is_alive s key.vpe) _ _ B (λ lives. installed-buried (pending_removed key s) key (Some p.parent) p.sel p.object

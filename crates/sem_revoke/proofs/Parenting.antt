@@ -50,6 +50,7 @@ use Rattle.sem_revoke.proofs.Growing.{is_plain}
 use Rattle.sem_revoke.proofs.Moving.{Moves}
 use Rattle.sem_revoke.proofs.Scaling.{side-send}
 use Rattle.sem_revoke.proofs.Steady.{IsSteady, rest-steady, revoked-steady, cleared-steady, requested-steady, done-steady, left_job-steady, unlinked-steady}
+use Rattle.sem_revoke.proofs.Steady.{promise_freed-steady}
 use Rattle.sem_revoke.proofs.Viewing.{one-true, one-more}
 use Rattle.sem_revoke.proofs.Waits.{parked-here, parked-other}
 use Rattle.sem_msg.specs.Rows.{VpeRow}
@@ -181,18 +182,8 @@ module _ (T : Setup) (i : ℕ) (G : KeyName → KeyName → Type 0) (R : KeyName
   refused-parented : (code : Code) (a : Ask) (t : Side) → Parented t → Parented (ask_refused T i code a t)
   refused-parented code a t is =
       cond_both (kernel_of T (asker a) == i) _ _ Parented (λ _. parked-parented (promise_freed (parked t (asker a)) (asker a) t) (asker a)
-      (Some (Ready (code_number code))) (λ k p o sel no'. absurd cc) (free (parked t (asker a)) (asker a))) (λ _. sends a)
+      (Some (Ready (code_number code))) (λ k p o sel no'. absurd cc) (promise_freed-steady Parented steady t is (parked t (asker a)) (asker a))) (λ _. sends a)
     where
-      free : (p : Option Parked) (v : ℕ) → Parented (promise_freed p v t)
-      free None v = is
-      free (Some (ObtainWait number sel)) v = vpes-parented t (freed v sel t).vpes is
-      free (Some (ObtainReady key parent object sel)) v = is
-      free (Some ObtainCancelled) v = is
-      free (Some (DelegateWait parent)) v = is
-      free (Some (DelegateReady parent key)) v = is
-      free (Some (RevokeWait j)) v = is
-      free (Some (Ready number)) v = is
-
       sends : (b : Ask) → Parented (refusal_sent T code b t)
       sends (ObtainAsk place target) = quiet-parented t (place_owner T place) (ObtainNo place (code_number code)) (λ p k. refl) is
       sends (DelegateAsk parent object sel) = quiet-parented t (owner_of T parent) (DelegateNo parent (code_number code)) (λ p k. refl) is
@@ -340,11 +331,11 @@ module _ (T : Setup) (i : ℕ) (G : KeyName → KeyName → Type 0) (R : KeyName
     given = λ parent key object of. ready parent key object (gives parent key object of) (parked s key.vpe);
     orphaned = λ parent key object of. quiet-parented s (owner_of T parent) (Orphan parent key) (λ p k. refl) is;
     no_obtain = λ place code of. parked-parented (promise_freed (parked s place.vpe) place.vpe s) place.vpe (Some (Ready code)) (λ k p o sel no'. absurd cc)
-        (free (parked s place.vpe) place.vpe);
+        (promise_freed-steady Parented steady s is (parked s place.vpe) place.vpe);
     prepared = λ parent key of. parked-parented s parent.vpe (Some (DelegateReady parent key)) (λ k p o sel no'. absurd cc) is;
     given_up = λ parent key of. quiet-parented s (owner_of T key) (Ack key false) (λ p k. refl) is;
     no_delegate = λ parent code of. parked-parented (promise_freed (parked s parent.vpe) parent.vpe s) parent.vpe (Some (Ready code))
-        (λ k p o sel no'. absurd cc) (free (parked s parent.vpe) parent.vpe);
+        (λ k p o sel no'. absurd cc) (promise_freed-steady Parented steady s is (parked s parent.vpe) parent.vpe);
     acked = λ key accepted p of there. acked key accepted p of there;
     unlinks = λ parent key. unlinked-steady Parented steady parent key s is;
     requests = λ key j of. requested-steady Parented steady T i from j key (cap s key) s
@@ -352,16 +343,6 @@ module _ (T : Setup) (i : ℕ) (G : KeyName → KeyName → Type 0) (R : KeyName
     dones = λ j of. done-steady Parented steady T i j s is;
   })
     where
-      free : (p : Option Parked) (v : ℕ) → Parented (promise_freed p v s)
-      free None v = is
-      free (Some (ObtainWait number sel)) v = vpes-parented s (freed v sel s).vpes is
-      free (Some (ObtainReady key parent object sel)) v = is
-      free (Some ObtainCancelled) v = is
-      free (Some (DelegateWait parent)) v = is
-      free (Some (DelegateReady parent key)) v = is
-      free (Some (RevokeWait j)) v = is
-      free (Some (Ready number)) v = is
-
       ready : (parent key : KeyName) (object : Object) → G parent key → (p : Option Parked) → Parented (obtain_ready parent key object p s)
       ready parent key object right (Some (ObtainWait number sel)) =
           parked-parented s key.vpe (Some (ObtainReady key parent object sel))

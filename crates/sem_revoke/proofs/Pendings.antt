@@ -34,7 +34,7 @@ use Rattle.sem_machine.specs.Steps.{Step, plain}
 use Rattle.sem_machine.specs.Asks.{target_vpe, asker, is_unawaited, promise_freed, call_refused, refusal_sent, ask_refused}
 use Rattle.sem_machine.specs.Calls.{next_key, next_place, call_row}
 use Rattle.sem_machine.specs.Upcalls.{given, given_kind, given_here, ask_decided, upcall_row}
-use Rattle.sem_machine.specs.Handles.{obtain_ready, acknowledged, handled}
+use Rattle.sem_machine.specs.Handles.{acknowledged, handled}
 use Rattle.sem_machine.specs.Resumes.{delegate_granted, delegate_resumed, resumed, resume_row}
 use Rattle.sem_machine.specs.Machine.{local_step, next_call}
 use Rattle.sem_msg.specs.declared.event.Act.{Act}
@@ -45,6 +45,7 @@ use Rattle.sem_safety.specs.Seen.{Seen}
 use Rattle.sem_safety.proofs.Updates.{seen-send}
 use Rattle.sem_safety.proofs.Skeleton.{call_row-by, decided-by, handled-by}
 use Rattle.sem_revoke.proofs.Steady.{IsSteady, rest-steady, revoked-steady, cleared-steady, requested-steady, done-steady, left_job-steady}
+use Rattle.sem_revoke.proofs.Steady.{promise_freed-steady, obtain_ready-steady}
 use Rattle.sem_revoke.proofs.Waits.{parked-other}
 
 -- what waits to be sent goes on to wait when more is sent, and what is sent waits
@@ -100,18 +101,9 @@ module _ (T : Setup) (k0 : KeyName) (was : Option Pending) where
   }
 
   refused-prepared : (i : ℕ) (code : Code) (a : Ask) (t : Side) → Prepared t → Prepared (ask_refused T i code a t)
-  refused-prepared i code a t is = cond_both (kernel_of T (asker a) == i) _ _ Prepared (λ _. free (parked t (asker a)) (asker a)) (λ _. sends a)
+  refused-prepared i code a t is = cond_both (kernel_of T (asker a) == i) _ _ Prepared
+      (λ _. promise_freed-steady Prepared steady t is (parked t (asker a)) (asker a)) (λ _. sends a)
     where
-      free : (p : Option Parked) (v : ℕ) → Prepared (promise_freed p v t)
-      free None v = is
-      free (Some (ObtainWait number sel)) v = is
-      free (Some (ObtainReady key parent object sel)) v = is
-      free (Some ObtainCancelled) v = is
-      free (Some (DelegateWait parent)) v = is
-      free (Some (DelegateReady parent key)) v = is
-      free (Some (RevokeWait j)) v = is
-      free (Some (Ready number)) v = is
-
       sends : (b : Ask) → Prepared (refusal_sent T code b t)
       sends (ObtainAsk place target) = prepared-send t (place_owner T place) (ObtainNo place (code_number code)) is
       sends (DelegateAsk parent object sel) = prepared-send t (owner_of T parent) (DelegateNo parent (code_number code)) is
@@ -286,38 +278,18 @@ module _ (T : Setup) (k0 : KeyName) (was : Option Pending) where
     dead_obtain = λ place target of. refused-prepared i Dead (ObtainAsk place target) s is;
     asked_delegate = λ parent object vpe sel of. is;
     dead_delegate = λ parent object vpe sel of. refused-prepared i Dead (DelegateAsk parent object sel) s is;
-    given = λ parent key object of. ready parent key object (parked s key.vpe);
+    given = λ parent key object of. obtain_ready-steady Prepared steady parent key object s is (λ sel. is) (parked s key.vpe);
     orphaned = λ parent key object of. prepared-send s (owner_of T parent) (Orphan parent key) is;
-    no_obtain = λ place code of. free (parked s place.vpe) place.vpe;
+    no_obtain = λ place code of. promise_freed-steady Prepared steady s is (parked s place.vpe) place.vpe;
     prepared = λ parent key of. is;
     given_up = λ parent key of. prepared-send s (owner_of T key) (Ack key false) is;
-    no_delegate = λ parent code of. free (parked s parent.vpe) parent.vpe;
+    no_delegate = λ parent code of. promise_freed-steady Prepared steady s is (parked s parent.vpe) parent.vpe;
     acked = λ key accepted p of there. acks key accepted p;
     unlinks = λ parent key. is;
     requests = λ key j of. requested-steady Prepared steady T i from j key (cap s key) s (λ u ready' same here. here) is;
     dones = λ j of. done-steady Prepared steady T i j s is;
   })
     where
-      free : (p : Option Parked) (v : ℕ) → Prepared (promise_freed p v s)
-      free None v = is
-      free (Some (ObtainWait number sel)) v = is
-      free (Some (ObtainReady key parent object sel)) v = is
-      free (Some ObtainCancelled) v = is
-      free (Some (DelegateWait parent)) v = is
-      free (Some (DelegateReady parent key)) v = is
-      free (Some (RevokeWait j)) v = is
-      free (Some (Ready number)) v = is
-
-      ready : (parent key : KeyName) (object : Object) (p : Option Parked) → Prepared (obtain_ready parent key object p s)
-      ready parent key object None = is
-      ready parent key object (Some (ObtainWait number sel)) = is
-      ready parent key object (Some (ObtainReady key' parent' object' sel)) = is
-      ready parent key object (Some ObtainCancelled) = is
-      ready parent key object (Some (DelegateWait parent')) = is
-      ready parent key object (Some (DelegateReady parent' key')) = is
-      ready parent key object (Some (RevokeWait j)) = is
-      ready parent key object (Some (Ready code)) = is
-
       acks : (key : KeyName) (accepted : Bool) (p : Pending) → Prepared (acknowledged T key accepted s p)
       acks key true p = cond_both (is_alive s key.vpe) _ _ Prepared (λ _. removed-prepared s key is)
           (λ _. prepared-send (pending_removed key s) (owner_of T p.parent) (Orphan p.parent key) (removed-prepared s key is))

@@ -6,6 +6,7 @@ use Rattle.std.specs.Prelude.{◌==◌, if◌then◌else◌}
 use Rattle.std.specs.List.{Contains, list_any}
 use Rattle.std.proofs.lemmas.Bool.{cases_Bool, cond_both, cond-true, cond-false, and_parts}
 use Rattle.std.proofs.lemmas.Option.{same_Some}
+use Rattle.sem_key.specs.declared.object.Object.{Object}
 use Rattle.sem_key.specs.KeyName.{KeyName}
 use Rattle.sem_key.specs.Lists.{change, put}
 use Rattle.sem_key.specs.Capability.{Capability}
@@ -33,6 +34,8 @@ use Rattle.sem_machine.specs.Sides.{Side, cap, job, parked, freed, parked_as, un
 use Rattle.sem_machine.specs.Revokes.{count_raised, count_lowered, with_up, other_marker, adopted, request_or_adopt, spared, root_spared, selectors_freed}
 use Rattle.sem_machine.specs.Revokes.{all_freed, swept, woken, parent_left, up_told, left_parent, closed_here, closed, finish, settled, opened, begin}
 use Rattle.sem_machine.specs.Revokes.{waiter_left, revoke_begun, clear_begun, ready_freed, obtain_cancelled, request_begun, revoke_requested, revoke_done}
+use Rattle.sem_machine.specs.Asks.{promise_freed}
+use Rattle.sem_machine.specs.Handles.{obtain_ready}
 use Rattle.sem_machine.specs.Ends.{revoked_if_left}
 use Rattle.sem_machine.proofs.Folds.{in_turn-keeps, option-keeps}
 use Rattle.sem_revoke.proofs.Growing.{is_plain}
@@ -233,6 +236,29 @@ module _ (P : Side → Type 0) (S : IsSteady P) where
 
   pub begin-steady : (T : Setup) (i : ℕ) (root : KeyName) (up : Option Up) (ws : List ℕ) (t : Side) → P t → P (begin T i root up ws false t)
   begin-steady T i root up ws t is = begin-kept T i root up ws false t (S.opens t root up ws is)
+
+  -- a waiting obtain gives its promise up
+  pub promise_freed-steady : (t : Side) → P t → (p : Option Parked) (v : ℕ) → P (promise_freed p v t)
+  promise_freed-steady t is None v = is
+  promise_freed-steady t is (Some (ObtainWait number sel)) v = S.frees t v sel is
+  promise_freed-steady t is (Some (ObtainReady key parent object sel)) v = is
+  promise_freed-steady t is (Some ObtainCancelled) v = is
+  promise_freed-steady t is (Some (DelegateWait parent)) v = is
+  promise_freed-steady t is (Some (DelegateReady parent key)) v = is
+  promise_freed-steady t is (Some (RevokeWait j)) v = is
+  promise_freed-steady t is (Some (Ready number)) v = is
+
+  -- a waiting obtain turns ready
+  pub obtain_ready-steady : (parent key : KeyName) (object : Object) (t : Side) → P t → ((sel : ℕ) → P (parked_as key.vpe (ObtainReady key parent object sel) t)) →
+      (p : Option Parked) → P (obtain_ready parent key object p t)
+  obtain_ready-steady parent key object t is readies None = is
+  obtain_ready-steady parent key object t is readies (Some (ObtainWait number sel)) = readies sel
+  obtain_ready-steady parent key object t is readies (Some (ObtainReady key' parent' object' sel)) = is
+  obtain_ready-steady parent key object t is readies (Some ObtainCancelled) = is
+  obtain_ready-steady parent key object t is readies (Some (DelegateWait parent')) = is
+  obtain_ready-steady parent key object t is readies (Some (DelegateReady parent' key')) = is
+  obtain_ready-steady parent key object t is readies (Some (RevokeWait j)) = is
+  obtain_ready-steady parent key object t is readies (Some (Ready number)) = is
 
   -- what a VPE holds still when it ends
   pub rest-steady : (T : Setup) (i : ℕ) (k : KeyName) (t : Side) → P t → P (revoked_if_left T i k t)
