@@ -7,6 +7,5 @@ pub mod Events
 pub mod Entries
 pub mod FineLines
 pub mod Behind
-pub mod StandingLines
 pub mod Section
 pub mod Readable

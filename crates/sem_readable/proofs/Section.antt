@@ -16,7 +16,7 @@ use Rattle.sem_report.proofs.TraceHead.{version_told}
 use Rattle.sem_report.proofs.TraceInReport.{whole-parts}
 use Rattle.sem_readable.proofs.Values.{none_of}
 use Rattle.sem_readable.proofs.FineLines.{mapped_none}
-use Rattle.sem_readable.proofs.StandingLines.{accepted_setup}
+use Rattle.sem_reader.proofs.StandingSetup.{accepted_setup}
 
 -- lines put together
 abbrev pub joined : List (List ℕ) → List ℕ

@@ -150,7 +150,7 @@ good_setup (first ∷ []) good ended = absurd (true≢false (sym ended))
 good_setup (first ∷ second ∷ earlier) good ended = setup_is (version_in first) (number_at second 1) (map declaration earlier) good.0 good.1 good.2 good.3
 
 -- lines without a refusal
-accepted_setup : (lines : List (List ℕ)) → lines_refusal lines ≡ None → IsSetup (setup_of (version_of lines) (kernels_of lines) (declarations_of lines))
+pub accepted_setup : (lines : List (List ℕ)) → lines_refusal lines ≡ None → IsSetup (setup_of (version_of lines) (kernels_of lines) (declarations_of lines))
 unfolding first_fault end_fault version_of kernels_of declarations_of
 accepted_setup lines none =
     let parts = both_none (first_fault lines) (end_fault lines) none in
