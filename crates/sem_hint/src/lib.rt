@@ -2,6 +2,7 @@
 //! belongs there, and the nearest word that can stand there.
 #![tactic(auto)]
 
+mod answers;
 mod causes;
 mod earlier;
 mod forms;
@@ -11,6 +12,7 @@ mod places;
 mod told;
 mod words;
 
+pub use answers::{no_report, too_few_entries, wrong_entry};
 pub use hints::{kind_of, no_report_text, refusal_text};
 pub use places::TextKind;
 /// Memory was refused.

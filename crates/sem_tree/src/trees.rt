@@ -3,11 +3,10 @@ use crate::nodes::nodes_of;
 use crate::rows::tree_rows;
 use crate::walks::Walk;
 use sem_draw::{Answer, Ending, Node, Picture, tree_as_dot, tree_as_svg, tree_as_text};
-use sem_hint::no_report_text;
+use sem_hint::{no_report, too_few_entries, wrong_entry};
 use sem_key::OutOfMemory;
 use sem_msg::{Entry, Journal, Setup};
 use sem_report::read_report;
-use sem_trace::TraceError;
 use std::alloc::Global;
 
 /// The most keys of a forest.
@@ -32,12 +31,18 @@ pub struct TreeRequest {
 pub fn tree(alloc: Global, request: &TreeRequest, bytes: &[u8]) -> Result<Answer, OutOfMemory> {
     match read_report(alloc, bytes) {
         Ok((setup, journal, _)) => tree_of(alloc, request, &setup, &journal),
-        Err(TraceError::Refused(fault)) => {
-            let text = no_report_text(alloc, bytes, &fault)?;
-            Ok(Answer::failed(alloc, Ending::Refused, text))
-        }
-        Err(TraceError::Memory) => Err(OutOfMemory),
+        Err(error) => no_report(alloc, bytes, error),
     }
+}
+
+/// How many keys the setup and the entries make.
+pub fn key_count(setup: &Setup, entries: &[Entry]) -> usize {
+    let mut count = 0usize;
+    for decl in setup.vpes.as_slice() {
+        count = count.saturating_add(decl.roots.len());
+    }
+    let granted = entries.iter().filter(|entry| entry.grant.is_some());
+    count.saturating_add(granted.count())
 }
 
 // The answer to the request on a report with that setup and journal.
@@ -50,8 +55,7 @@ fn tree_of(
     let all = journal.len() as u64;
     let at = request.at.unwrap_or(all);
     if at > all {
-        let text = format!(in alloc; "there are no {at} entries: the report has {all}\n")?;
-        return Ok(Answer::failed(alloc, Ending::WrongWords, text));
+        return too_few_entries(alloc, at, all);
     }
     let count = at as usize;
     let entries = &journal.as_slice()[..count];
@@ -64,24 +68,11 @@ fn tree_of(
     }
     let mut walk = Walk::start(alloc, setup)?;
     if let Some(number) = first_wrong(&mut walk, setup, entries)? {
-        let text = format!(in alloc;
-            "entry {number} is not the one that the machine makes: semper-view explain tells more\n"
-        )?;
-        return Ok(Answer::failed(alloc, Ending::Refused, text));
+        return wrong_entry(alloc, number);
     }
     let rows = tree_rows(alloc, setup, journal, count)?;
     let nodes = nodes_of(alloc, setup, rows.as_slice(), entries, &walk)?;
     Ok(Answer::done(alloc, draw(alloc, nodes.as_slice(), request.form)?))
-}
-
-/// How many keys the setup and the entries make.
-pub fn key_count(setup: &Setup, entries: &[Entry]) -> usize {
-    let mut count = 0usize;
-    for decl in setup.vpes.as_slice() {
-        count = count.saturating_add(decl.roots.len());
-    }
-    let granted = entries.iter().filter(|entry| entry.grant.is_some());
-    count.saturating_add(granted.count())
 }
 
 // The number of the first entry that is not the one that its event makes, if there is one.

@@ -4,11 +4,10 @@ use crate::stats_json::stats_as_json;
 use crate::stats_text::stats_as_text;
 use sem_chart::{Range, Shown, chart_of};
 use sem_draw::{Answer, Chart, Ending, Picture, chart_as_svg, chart_as_text, fits};
-use sem_hint::no_report_text;
+use sem_hint::no_report;
 use sem_key::OutOfMemory;
 use sem_msg::{Journal, Setup};
 use sem_report::read_report;
-use sem_trace::TraceError;
 use sem_waits::{waits_as_text, waits_in};
 use std::alloc::Global;
 
@@ -39,11 +38,7 @@ pub enum Request {
 pub fn respond(alloc: Global, request: &Request, bytes: &[u8]) -> Result<Answer, OutOfMemory> {
     match read_report(alloc, bytes) {
         Ok((setup, journal, _)) => respond_with(alloc, request, &setup, &journal),
-        Err(TraceError::Refused(fault)) => {
-            let text = no_report_text(alloc, bytes, &fault)?;
-            Ok(Answer::failed(alloc, Ending::Refused, text))
-        }
-        Err(TraceError::Memory) => Err(OutOfMemory),
+        Err(error) => no_report(alloc, bytes, error),
     }
 }
 

@@ -4,12 +4,11 @@ use crate::bars::{Found, bar_of};
 use crate::holdings::{Holdings, holdings_after};
 use sem_check::first_schedule;
 use sem_draw::{Answer, Bar, Ending, Picture, bars_as_svg, bars_as_text};
-use sem_hint::no_report_text;
+use sem_hint::{no_report, too_few_entries, wrong_entry};
 use sem_key::OutOfMemory;
 use sem_mem::Access;
 use sem_msg::{Journal, Setup};
 use sem_report::read_report;
-use sem_trace::TraceError;
 use std::alloc::Global;
 
 /// The most runs and accesses of a picture.
@@ -29,36 +28,30 @@ pub fn memory_picture(
     bytes: &[u8],
 ) -> Result<Answer, OutOfMemory> {
     match read_report(alloc, bytes) {
-        Ok((setup, journal, _)) => picture_of(alloc, request, &setup, &journal),
-        Err(TraceError::Refused(fault)) => {
-            let text = no_report_text(alloc, bytes, &fault)?;
-            Ok(Answer::failed(alloc, Ending::Refused, text))
+        Ok((setup, journal, _)) => {
+            let all = journal.len() as u64;
+            let at = request.at.unwrap_or(all);
+            if at > all {
+                return too_few_entries(alloc, at, all);
+            }
+            picture_of(alloc, request.picture, &setup, &journal, at as usize)
         }
-        Err(TraceError::Memory) => Err(OutOfMemory),
+        Err(error) => no_report(alloc, bytes, error),
     }
 }
 
-// The answer to the request on a report with that setup and journal.
+// The picture of what memory holds after that many entries of a report with that setup and journal.
 fn picture_of(
     alloc: Global,
-    request: &MemoryRequest,
+    picture: Picture,
     setup: &Setup,
     journal: &Journal,
+    count: usize,
 ) -> Result<Answer, OutOfMemory> {
-    let all = journal.len() as u64;
-    let at = request.at.unwrap_or(all);
-    if at > all {
-        let text = format!(in alloc; "there are no {at} entries: the report has {all}\n")?;
-        return Ok(Answer::failed(alloc, Ending::WrongWords, text));
-    }
-    let count = at as usize;
     let first = first_schedule(alloc, setup, journal, count)?;
     let number = first.len();
     if number < count {
-        let text = format!(in alloc;
-            "entry {number} is not the one that the machine makes: semper-view explain tells more\n"
-        )?;
-        return Ok(Answer::failed(alloc, Ending::Refused, text));
+        return wrong_entry(alloc, number);
     }
     let held = holdings_after(alloc, setup, &first)?;
     let rows = held.rows.len().saturating_add(held.looks.len());
@@ -69,7 +62,7 @@ fn picture_of(
         return Ok(Answer::failed(alloc, Ending::WrongWords, text));
     }
     let bars = bars_of(alloc, setup, &held)?;
-    Ok(Answer::done(alloc, draw(alloc, bars.as_slice(), request.picture)?))
+    Ok(Answer::done(alloc, draw(alloc, bars.as_slice(), picture)?))
 }
 
 // The bars of all areas that were written or read.
