@@ -9,11 +9,11 @@ use crate::starts::root_name;
 use crate::walks::{Walk, walk_through};
 use sem_check::first_schedule;
 use sem_draw::{Answer, Ending, Picture, Timeline, timeline_as_svg, timeline_as_text};
-use sem_hint::{key_text, no_report_text, object_text};
+use sem_hint::{key_text, no_report, object_text, too_few_entries, wrong_entry};
 use sem_key::{Key, OutOfMemory};
 use sem_msg::{Entry, Journal, Setup};
 use sem_report::read_report;
-use sem_trace::{TraceError, read_key};
+use sem_trace::read_key;
 use std::alloc::Global;
 
 /// The most rows of a story.
@@ -38,11 +38,7 @@ pub fn key_of(word: &str) -> Option<Key>
 pub fn story(alloc: Global, request: &StoryRequest, bytes: &[u8]) -> Result<Answer, OutOfMemory> {
     match read_report(alloc, bytes) {
         Ok((setup, journal, _)) => story_of(alloc, request, &setup, &journal),
-        Err(TraceError::Refused(fault)) => {
-            let text = no_report_text(alloc, bytes, &fault)?;
-            Ok(Answer::failed(alloc, Ending::Refused, text))
-        }
-        Err(TraceError::Memory) => Err(OutOfMemory),
+        Err(error) => no_report(alloc, bytes, error),
     }
 }
 
@@ -58,26 +54,13 @@ fn story_of(
     if at > all {
         return too_few_entries(alloc, at, all);
     }
-    let first = first_schedule(alloc, setup, journal, at as usize)?;
-    let number = first.len() as u64;
-    if number < at {
+    let count = at as usize;
+    let first = first_schedule(alloc, setup, journal, count)?;
+    let number = first.len();
+    if number < count {
         return wrong_entry(alloc, number);
     }
     story_along(alloc, request, setup, first.as_slice())
-}
-
-// The answer if the report has fewer entries than were asked for.
-fn too_few_entries(alloc: Global, at: u64, all: u64) -> Result<Answer, OutOfMemory> {
-    let text = format!(in alloc; "there are no {at} entries: the report has {all}\n")?;
-    Ok(Answer::failed(alloc, Ending::WrongWords, text))
-}
-
-// The answer if the machine makes another entry than the one of that number.
-fn wrong_entry(alloc: Global, number: u64) -> Result<Answer, OutOfMemory> {
-    let text = format!(in alloc;
-        "entry {number} is not the one that the machine makes: semper-view explain tells more\n"
-    )?;
-    Ok(Answer::failed(alloc, Ending::Refused, text))
 }
 
 // The answer to the request along the entries, a schedule.
