@@ -3,7 +3,7 @@ use crate::words::{object_words, place_word, text_of};
 use sem_chart::message_name;
 use sem_hint::key_text;
 use sem_journal::push_message;
-use sem_key::{Key, OutOfMemory};
+use sem_key::{Key, Object, OutOfMemory};
 use sem_msg::{Message, Target};
 use sem_names::code_name;
 use serde::Serialize;
@@ -42,51 +42,7 @@ impl MessageMembers {
     /// What the message says.
     pub fn of(alloc: Global, message: &Message) -> Result<MessageMembers, OutOfMemory> {
         let mut members = MessageMembers::named(alloc, message)?;
-        match message {
-            Message::ObtainReq { place, target } => {
-                members.place = Some(place_word(alloc, *place)?);
-                members.put_target(alloc, target)?;
-            }
-            Message::ObtainOk {
-                parent,
-                key,
-                object,
-            } => {
-                members.put_keys(alloc, parent, key)?;
-                members.object = Some(object_words(alloc, object)?);
-            }
-            Message::ObtainNo { place, code } => {
-                members.place = Some(place_word(alloc, *place)?);
-                members.code = Some(code_name(*code));
-            }
-            Message::DelegateReq {
-                parent,
-                object,
-                vpe,
-                sel,
-            } => {
-                members.parent = Some(key_text(alloc, parent)?);
-                members.object = Some(object_words(alloc, object)?);
-                members.vpe = Some(*vpe);
-                members.selector = Some(*sel);
-            }
-            Message::DelegateNo { parent, code } => {
-                members.parent = Some(key_text(alloc, parent)?);
-                members.code = Some(code_name(*code));
-            }
-            Message::Ack { key, yes } => {
-                members.key = Some(key_text(alloc, key)?);
-                members.accepted = Some(*yes);
-            }
-            Message::DelegatePrepared { parent, key }
-            | Message::Orphan { parent, key }
-            | Message::Unlink { parent, key } => members.put_keys(alloc, parent, key)?,
-            Message::RevokeReq { key, job } => {
-                members.key = Some(key_text(alloc, key)?);
-                members.job = Some(*job);
-            }
-            Message::RevokeDone { job } => members.job = Some(*job),
-        }
+        members.put(alloc, message)?;
         Ok(members)
     }
 
@@ -109,6 +65,77 @@ impl MessageMembers {
             accepted: None,
             job: None,
         })
+    }
+
+    // Adds each word of the message by its name.
+    fn put(&mut self, alloc: Global, message: &Message) -> Result<(), OutOfMemory> {
+        match message {
+            Message::ObtainReq { place, target } => {
+                self.place = Some(place_word(alloc, *place)?);
+                self.put_target(alloc, target)?;
+            }
+            Message::ObtainOk {
+                parent,
+                key,
+                object,
+            } => self.put_child(alloc, parent, key, object)?,
+            Message::ObtainNo { place, code } => {
+                self.place = Some(place_word(alloc, *place)?);
+                self.code = Some(code_name(*code));
+            }
+            Message::DelegateReq {
+                parent,
+                object,
+                vpe,
+                sel,
+            } => self.put_offer(alloc, parent, object, *vpe, *sel)?,
+            Message::DelegateNo { parent, code } => {
+                self.parent = Some(key_text(alloc, parent)?);
+                self.code = Some(code_name(*code));
+            }
+            Message::Ack { key, yes } => {
+                self.key = Some(key_text(alloc, key)?);
+                self.accepted = Some(*yes);
+            }
+            Message::DelegatePrepared { parent, key }
+            | Message::Orphan { parent, key }
+            | Message::Unlink { parent, key } => self.put_keys(alloc, parent, key)?,
+            Message::RevokeReq { key, job } => {
+                self.key = Some(key_text(alloc, key)?);
+                self.job = Some(*job);
+            }
+            Message::RevokeDone { job } => self.job = Some(*job),
+        }
+        Ok(())
+    }
+
+    // Adds a parent, its child and what the child gives.
+    fn put_child(
+        &mut self,
+        alloc: Global,
+        parent: &Key,
+        key: &Key,
+        object: &Object,
+    ) -> Result<(), OutOfMemory> {
+        self.put_keys(alloc, parent, key)?;
+        self.object = Some(object_words(alloc, object)?);
+        Ok(())
+    }
+
+    // Adds what the VPE is to get at the selector: an object, made from the parent.
+    fn put_offer(
+        &mut self,
+        alloc: Global,
+        parent: &Key,
+        object: &Object,
+        vpe: u16,
+        sel: u8,
+    ) -> Result<(), OutOfMemory> {
+        self.parent = Some(key_text(alloc, parent)?);
+        self.object = Some(object_words(alloc, object)?);
+        self.vpe = Some(vpe);
+        self.selector = Some(sel);
+        Ok(())
     }
 
     // Adds a parent and its child.

@@ -5,11 +5,10 @@ use crate::perfetto::perfetto;
 use crate::schema::SCHEMA;
 use sem_chart::{Range, Shown, chart_of};
 use sem_draw::{Answer, Ending};
-use sem_hint::no_report_text;
+use sem_hint::no_report;
 use sem_key::OutOfMemory;
 use sem_msg::{Audit, Journal, Setup};
 use sem_report::read_report;
-use sem_trace::TraceError;
 use std::alloc::Global;
 
 /// A request for an export.
@@ -32,11 +31,7 @@ pub fn export(alloc: Global, request: ExportRequest, bytes: &[u8]) -> Result<Ans
     }
     match read_report(alloc, bytes) {
         Ok((setup, journal, audit)) => export_of(alloc, request, &setup, &journal, &audit),
-        Err(TraceError::Refused(fault)) => {
-            let text = no_report_text(alloc, bytes, &fault)?;
-            Ok(Answer::failed(alloc, Ending::Refused, text))
-        }
-        Err(TraceError::Memory) => Err(OutOfMemory),
+        Err(error) => no_report(alloc, bytes, error),
     }
 }
 
