@@ -146,11 +146,7 @@ fn push_stretch(
     y: u64,
 ) -> Result<(), OutOfMemory> {
     let (at, width) = extent(bar, stretch, y);
-    let size = Point {
-        x: width,
-        y: HEIGHT,
-    };
-    push_rect(alloc, out, class(stretch.owner), at, size)?;
+    push_rect(alloc, out, class(stretch.owner), at, width, HEIGHT)?;
     let Some(owner) = stretch.owner else {
         return Ok(());
     };
@@ -216,8 +212,7 @@ fn push_span(
     y: u64,
 ) -> Result<(), OutOfMemory> {
     let (at, width) = extent(bar, &span.stretch, y.saturating_add(7));
-    let size = Point { x: width, y: 8 };
-    push_rect(alloc, out, class(span.stretch.owner), at, size)?;
+    push_rect(alloc, out, class(span.stretch.owner), at, width, 8)?;
     let text = Point {
         x: span_x(),
         y: base(y),
@@ -246,13 +241,7 @@ fn push_rows(alloc: Global, out: &mut String, bar: &Bar, y: u64) -> Result<(), O
             x: EDGE,
             y: top.saturating_add(3),
         };
-        push_rect(
-            alloc,
-            out,
-            class(stretch.owner),
-            square,
-            Point { x: 14, y: 14 },
-        )?;
+        push_rect(alloc, out, class(stretch.owner), square, 14, 14)?;
         push_row(alloc, out, bar.rows.as_slice(), Some(row), top)?;
     }
     Ok(())

@@ -97,11 +97,8 @@ fn push_groups(alloc: Global, out: &mut String, chart: &Chart) -> Result<(), Out
                 x: lane_x(place).saturating_sub(30),
                 y: 8,
             };
-            let size = Point {
-                x: count.saturating_mul(STEP).saturating_sub(8),
-                y: high,
-            };
-            push_rect(alloc, out, "group", at, size)?;
+            let width = count.saturating_mul(STEP).saturating_sub(8);
+            push_rect(alloc, out, "group", at, width, high)?;
         }
     }
     for (place, lane) in chart.lanes.as_slice().iter().enumerate() {
@@ -255,11 +252,7 @@ fn push_wait(
         x: lane_x(lane).saturating_sub(4),
         y: from,
     };
-    let size = Point {
-        x: 8,
-        y: to.saturating_sub(from),
-    };
-    push_rect(alloc, out, "waits", at, size)
+    push_rect(alloc, out, "waits", at, 8, to.saturating_sub(from))
 }
 
 // Appends a message that left before the first row, at the place where it arrives in the chart.

@@ -114,9 +114,10 @@ pub fn push_rect(
     out: &mut String,
     class: &str,
     at: Point,
-    size: Point,
+    width: u64,
+    height: u64,
 ) -> Result<(), OutOfMemory> {
-    let (x, y, width, height) = (at.x, at.y, size.x, size.y);
+    let (x, y) = (at.x, at.y);
     let rect = format!(in alloc;
         "<rect class=\"{class}\" x=\"{x}\" y=\"{y}\" width=\"{width}\" height=\"{height}\" rx=\"3\"/>\n"
     )?;

@@ -100,11 +100,14 @@ fn number_x(timeline: &Timeline, number: u64) -> u64 {
 
 // Appends the bar: the state of the thing at each number.
 fn push_bar(alloc: Global, out: &mut String, timeline: &Timeline) -> Result<(), OutOfMemory> {
-    let whole = Point {
-        x: LENGTH,
-        y: HEIGHT,
-    };
-    push_rect(alloc, out, "none", Point { x: EDGE, y: BAR }, whole)?;
+    push_rect(
+        alloc,
+        out,
+        "none",
+        Point { x: EDGE, y: BAR },
+        LENGTH,
+        HEIGHT,
+    )?;
     let mut free = 0u64;
     for (place, moment) in timeline.moments.as_slice().iter().enumerate() {
         let begin = timeline.begin(place);
@@ -129,11 +132,14 @@ fn push_part(
 ) -> Result<(), OutOfMemory> {
     let x = number_x(timeline, range.0);
     let width = number_x(timeline, range.1).saturating_sub(x).max(2);
-    let size = Point {
-        x: width,
-        y: HEIGHT,
-    };
-    push_rect(alloc, out, state_class(state), Point { x, y: BAR }, size)
+    push_rect(
+        alloc,
+        out,
+        state_class(state),
+        Point { x, y: BAR },
+        width,
+        HEIGHT,
+    )
 }
 
 // Appends a number below the bar, if there is room from `free` on. Returns where there is room
@@ -168,13 +174,7 @@ fn push_rail(alloc: Global, out: &mut String, timeline: &Timeline) -> Result<(),
             x: RAIL.saturating_sub(3),
             y: row_y(place),
         };
-        push_rect(
-            alloc,
-            out,
-            state_class(moment.state),
-            at,
-            Point { x: 6, y: ROW },
-        )?;
+        push_rect(alloc, out, state_class(moment.state), at, 6, ROW)?;
     }
     Ok(())
 }

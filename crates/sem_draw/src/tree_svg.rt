@@ -87,13 +87,7 @@ fn push_node(
     }
     push_hint(out, node.hint.as_str())?;
     let width = text_width(node.name.len()).saturating_add(16);
-    push_rect(
-        alloc,
-        out,
-        state_class(node.state),
-        at,
-        Point { x: width, y: 22 },
-    )?;
+    push_rect(alloc, out, state_class(node.state), at, width, 22)?;
     let base = at.y.saturating_add(16);
     let name = Point {
         x: at.x.saturating_add(8),
