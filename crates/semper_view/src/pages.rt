@@ -2,12 +2,11 @@
 use sem_chart::Range;
 use sem_draw::{Answer, Ending};
 use sem_export::{json_lines, told_lines};
-use sem_hint::no_report_text;
+use sem_hint::{no_report, wrong_entry};
 use sem_key::OutOfMemory;
 use sem_msg::{Audit, Journal, Setup};
 use sem_page::{PageParts, page_range, page_text};
 use sem_report::read_report;
-use sem_trace::TraceError;
 use sem_tree::{ForestsFault, KEYS, forest_lines};
 use sem_view::{stats_as_json, stats_of};
 use std::alloc::Global;
@@ -21,11 +20,7 @@ pub fn page(
 ) -> Result<Answer, OutOfMemory> {
     let (setup, journal, audit) = match read_report(alloc, bytes) {
         Ok(parts) => parts,
-        Err(TraceError::Refused(fault)) => {
-            let text = no_report_text(alloc, bytes, &fault)?;
-            return Ok(Answer::failed(alloc, Ending::Refused, text));
-        }
-        Err(TraceError::Memory) => return Err(OutOfMemory),
+        Err(error) => return no_report(alloc, bytes, error),
     };
     match page_range(alloc, journal.len(), from, to)? {
         Ok(range) => page_of(alloc, &setup, &journal, &audit, range),
@@ -44,12 +39,7 @@ fn page_of(
     let forests = match forest_lines(alloc, setup, journal, range.from, range.to) {
         Ok(lines) => lines,
         Err(ForestsFault::Memory) => return Err(OutOfMemory),
-        Err(ForestsFault::Wrong(number)) => {
-            let text = format!(in alloc;
-                "entry {number} is not the one that the machine makes: semper-view explain tells more\n"
-            )?;
-            return Ok(Answer::failed(alloc, Ending::Refused, text));
-        }
+        Err(ForestsFault::Wrong(number)) => return wrong_entry(alloc, number),
         Err(ForestsFault::TooMany(keys)) => {
             let text = format!(in alloc;
                 "the forest would have {keys} keys, and {KEYS} are the most: name fewer entries by --to\n"

@@ -66,36 +66,8 @@ pub fn read_words(alloc: Global, words: &[String]) -> Result<Asked, Error> {
 // The request of the matches.
 fn meant(alloc: Global, matches: &ArgMatches<'_>) -> Result<Asked, Error> {
     match matches.subcommand() {
-        Some(("tree", tree)) => Ok(Asked::Tree {
-            request: TreeRequest {
-                form: TreeForm::Drawn {
-                    picture: picture(tree),
-                },
-                at: tree.get_one::<u64>("at"),
-            },
-        }),
-        Some(("dot", dot)) => Ok(Asked::Tree {
-            request: TreeRequest {
-                form: TreeForm::Dot,
-                at: dot.get_one::<u64>("at"),
-            },
-        }),
-        Some(("json", json)) => Ok(Asked::Export {
-            request: if json.get_flag("schema") {
-                ExportRequest::Schema
-            } else {
-                ExportRequest::Json
-            },
-        }),
-        Some(("mermaid", chart)) => Ok(Asked::Export {
-            request: ExportRequest::Mermaid {
-                from: chart.get_one::<u64>("from"),
-                to: chart.get_one::<u64>("to"),
-            },
-        }),
-        Some(("perfetto", _)) => Ok(Asked::Export {
-            request: ExportRequest::Perfetto,
-        }),
+        Some(("tree", tree)) => Ok(forest(drawn(tree), tree)),
+        Some(("dot", dot)) => Ok(forest(TreeForm::Dot, dot)),
         Some(("page", page)) => Ok(Asked::Page {
             from: page.get_one::<u64>("from"),
             to: page.get_one::<u64>("to"),
@@ -121,10 +93,42 @@ fn meant(alloc: Global, matches: &ArgMatches<'_>) -> Result<Asked, Error> {
         Some(("files", _)) => Ok(Asked::Files),
         Some(("assemble", _)) => Ok(Asked::Assemble),
         Some(("explain", _)) => Ok(Asked::Explain),
-        Some((name, view)) => Ok(Asked::View {
-            request: viewed(alloc, name, view)?,
-        }),
+        Some((name, other)) => match exported(name, other) {
+            Some(request) => Ok(Asked::Export { request }),
+            None => Ok(Asked::View {
+                request: viewed(alloc, name, other)?,
+            }),
+        },
         None => Ok(Asked::Explain),
+    }
+}
+
+// The request for a forest in that form.
+fn forest(form: TreeForm, matches: &ArgMatches<'_>) -> Asked {
+    let at = matches.get_one::<u64>("at");
+    Asked::Tree {
+        request: TreeRequest { form, at },
+    }
+}
+
+// A forest as a picture.
+fn drawn(matches: &ArgMatches<'_>) -> TreeForm {
+    TreeForm::Drawn {
+        picture: picture(matches),
+    }
+}
+
+// The request of the command of that name, if it writes a report for other tools.
+fn exported(name: &str, matches: &ArgMatches<'_>) -> Option<ExportRequest> {
+    match name {
+        "json" if matches.get_flag("schema") => Some(ExportRequest::Schema),
+        "json" => Some(ExportRequest::Json),
+        "mermaid" => Some(ExportRequest::Mermaid {
+            from: matches.get_one::<u64>("from"),
+            to: matches.get_one::<u64>("to"),
+        }),
+        "perfetto" => Some(ExportRequest::Perfetto),
+        _ => None,
     }
 }
 
