@@ -15,18 +15,6 @@ use Rattle.sem_machine.specs.Sides.{installed}
 use Rattle.sem_machine.specs.Stores.{with_pendings}
 use Rattle.sem_delegate.specs.PendingStore.{PendingStore}
 
--- the side with these VPEs, waiting calls and outboxes
-abbrev pub offering : VpeTable → List (Option Parked) → OutboxList → Side → Side
-offering vpes park outs s = with_vpes vpes.rows (with_parks park (with_outs outs.boxes s))
-
--- the side with these capabilities and VPEs
-abbrev pub owning : CapStore → VpeTable → Side → Side
-owning caps vpes s = with_caps caps.caps (with_vpes vpes.rows s)
-
--- the side with these capabilities, VPEs and waiting calls
-abbrev pub installing : CapStore → VpeTable → List (Option Parked) → Side → Side
-installing caps vpes park s = with_caps caps.caps (with_vpes vpes.rows (with_parks park s))
-
 -- the side with these VPEs, pending delegations and outboxes
 abbrev pub preparing : VpeTable → PendingStore → OutboxList → Side → Side
 preparing vpes pendings outs s = with_vpes vpes.rows (with_pendings pendings.pendings (with_outs outs.boxes s))

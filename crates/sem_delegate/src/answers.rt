@@ -8,8 +8,8 @@ ghost use Rattle.sem_vpe.specs.VpeTable.{AreOurs};
 ghost use Rattle.sem_machine.specs.Asks.{call_refused, is_delegate_wait};
 ghost use Rattle.sem_machine.specs.Sides.{Side};
 ghost use Rattle.sem_machine.specs.Handles.{handle_row};
-ghost use Rattle.sem_machine.specs.Stores.{with_vpes, with_parks, with_outs};
-ghost use Rattle.sem_delegate.specs.Delegating.{IsAwaited, offering};
+ghost use Rattle.sem_machine.specs.Stores.{with_outs, with_parks, with_vpes, with_vpes_parks_outs};
+ghost use Rattle.sem_delegate.specs.Delegating.{IsAwaited};
 
 use crate::messages::{acknowledgement, refusal, tell_owner};
 use sem_key::{Key, Object};
@@ -76,9 +76,9 @@ pub fn delegate_prepared(
     requires boxes { HasBoxes setup.now outs.old }
     requires spare { 0 < outs.old.spare }
     ensures row { (from : ℕ) (s : Side) →
-        offering vpes.now park.new outs.new s
-        ≡ handle_row setup.now kernel (offering vpes.now park.old outs.old s) from
-        (DelegatePrepared parent key) }
+        with_vpes_parks_outs vpes.now.rows park.new outs.new.boxes s
+        ≡ handle_row setup.now kernel (with_vpes_parks_outs vpes.now.rows park.old outs.old.boxes s)
+        from (DelegatePrepared parent key) }
     ensures boxes { HasBoxes setup.now outs.new }
     ensures spare { outs.old.spare ≤ outs.new.spare + 1 }
 {

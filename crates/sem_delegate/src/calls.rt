@@ -8,8 +8,8 @@ ghost use Rattle.sem_vpe.specs.VpeTable.{AreOurs};
 ghost use Rattle.sem_machine.specs.Sides.{Side, no_side, own};
 ghost use Rattle.sem_machine.specs.Steps.{plain};
 ghost use Rattle.sem_machine.specs.Calls.{delegate_row, offer_made};
-ghost use Rattle.sem_machine.specs.Stores.{with_caps};
-ghost use Rattle.sem_delegate.specs.Delegating.{IsOfKind, offering, owning};
+ghost use Rattle.sem_machine.specs.Stores.{owning, with_caps_vpes_parks_outs, with_vpes_parks_outs};
+ghost use Rattle.sem_delegate.specs.Delegating.{IsOfKind};
 
 use crate::messages::request;
 use crate::refusals::delegate_refusal;
@@ -36,16 +36,17 @@ pub fn delegate_call(
     requires home { AreOurs setup.now kernel vpes.old }
     requires vpe { kernel_of_lem setup.now vpe ≡ kernel }
     requires declared { is_declared setup.now vpe ≡ true }
-    requires valid { IfSome (own (owning caps.now vpes.old no_side) vpe src) IsOfKind }
+    requires valid { IfSome (own (owning caps.now.caps vpes.old.rows no_side) vpe src) IsOfKind }
     requires boxes { HasBoxes setup.now outs.old }
     requires spare { 0 < outs.old.spare }
     ensures row { (s : Side) →
         record {
-          side = with_caps caps.now.caps (offering vpes.new park.new outs.new s);
+          side = with_caps_vpes_parks_outs caps.now.caps vpes.new.rows park.new outs.new.boxes s;
           outcome = result;
         }
         ≡ delegate_row setup.now kernel
-        (with_caps caps.now.caps (offering vpes.old park.old outs.old s)) vpe src other dst }
+        (with_caps_vpes_parks_outs caps.now.caps vpes.old.rows park.old outs.old.boxes s) vpe src
+        other dst }
     ensures ours { vpes.new.ours ≡ vpes.old.ours }
     ensures boxes { HasBoxes setup.now outs.new }
     ensures spare { outs.old.spare ≤ outs.new.spare + 1 }
@@ -82,9 +83,9 @@ fn make_offer(
     requires boxes { HasBoxes setup.now outs.old }
     requires spare { 0 < outs.old.spare }
     ensures row { (s : Side) →
-        plain (offering vpes.new park.new outs.new s)
+        plain (with_vpes_parks_outs vpes.new.rows park.new outs.new.boxes s)
         ≡ offer_made setup.now kernel vpe other dst (capability_of cap.now)
-        (offering vpes.old park.old outs.old s) }
+        (with_vpes_parks_outs vpes.old.rows park.old outs.old.boxes s) }
     ensures ours { vpes.new.ours ≡ vpes.old.ours }
     ensures boxes { HasBoxes setup.now outs.new }
     ensures spare { outs.old.spare ≤ outs.new.spare + 1 }

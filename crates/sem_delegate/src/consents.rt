@@ -7,9 +7,9 @@ ghost use Rattle.sem_vpe.specs.VpeTable.{IsOurs};
 ghost use Rattle.sem_machine.specs.Sides.{Side, no_side};
 ghost use Rattle.sem_machine.specs.Steps.{asking, first_code};
 ghost use Rattle.sem_machine.specs.Calls.{destination_tests};
-ghost use Rattle.sem_machine.specs.Stores.{with_vpes};
+ghost use Rattle.sem_machine.specs.Stores.{installing, with_vpes};
 ghost use Rattle.sem_machine.specs.Upcalls.{ask_decided, delegate_here, parent_tests};
-ghost use Rattle.sem_delegate.specs.Delegating.{HasRoomFor, IsNextFree, installing};
+ghost use Rattle.sem_delegate.specs.Delegating.{HasRoomFor, IsNextFree};
 
 use crate::answers::end_waiting;
 use crate::keys::draw_key;
@@ -39,9 +39,9 @@ pub fn decide_here(
     requires child_room { HasRoomFor caps.old parent }
     requires spare { 0 < caps.old.spare }
     ensures row { (s : Side) →
-        record { side = installing caps.new vpes.new park.new s; outcome = result }
+        record { side = installing caps.new.caps vpes.new.rows park.new s; outcome = result }
         ≡ ask_decided setup.now kernel vpe (DelegateAsk parent object sel)
-        (installing caps.old vpes.old park.old s) }
+        (installing caps.old.caps vpes.old.rows park.old s) }
     ensures ours { vpes.new.ours ≡ vpes.old.ours }
     ensures spare { caps.old.spare ≤ caps.new.spare + 1 }
 {
@@ -79,9 +79,10 @@ fn take_child(
     requires child_room { HasRoomFor caps.old parent }
     requires spare { 0 < caps.old.spare }
     ensures row { (s : Side) →
-        record { side = installing caps.new vpes.new park.new s; outcome = result }
+        record { side = installing caps.new.caps vpes.new.rows park.new s; outcome = result }
         ≡ asking parent.vpe Yes
-        (delegate_here setup.now vpe parent object sel (installing caps.old vpes.old park.old s)) }
+        (delegate_here setup.now vpe parent object sel
+        (installing caps.old.caps vpes.old.rows park.old s)) }
     ensures ours { vpes.new.ours ≡ vpes.old.ours }
     ensures spare { caps.old.spare ≤ caps.new.spare + 1 }
 {

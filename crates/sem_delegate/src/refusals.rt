@@ -4,9 +4,8 @@ ghost use Rattle.sem_vpe.specs.VpeTable.{AreOurs, IsOurs};
 ghost use Rattle.sem_machine.specs.Sides.{no_side};
 ghost use Rattle.sem_machine.specs.Steps.{first_code};
 ghost use Rattle.sem_machine.specs.Calls.{delegate_tests, destination_tests};
-ghost use Rattle.sem_machine.specs.Stores.{with_vpes};
+ghost use Rattle.sem_machine.specs.Stores.{owning, with_vpes};
 ghost use Rattle.sem_machine.specs.Upcalls.{parent_tests};
-ghost use Rattle.sem_delegate.specs.Delegating.{owning};
 
 use sem_caps::Caps;
 use sem_key::{Key, Object};
@@ -26,7 +25,8 @@ pub fn delegate_refusal(
     requires home { AreOurs setup.now kernel vpes.now }
     requires ours { IsOurs vpes.now vpe }
     ensures { result ≡ first_code
-        (delegate_tests setup.now kernel (owning caps.now vpes.now no_side) vpe src other) }
+        (delegate_tests setup.now kernel (owning caps.now.caps vpes.now.rows no_side)
+        vpe src other) }
 {
     if other == vpe {
         return Some(Code::SelfExchange);

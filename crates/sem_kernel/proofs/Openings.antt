@@ -25,10 +25,10 @@ use Rattle.sem_msg.specs.Setup.{Setup, IsSetup}
 use Rattle.sem_msg.specs.Lookups.{kernel_of}
 use Rattle.sem_machine.specs.Sides.{Side, cap, own, parked, parked_as}
 use Rattle.sem_machine.specs.Steps.{Step}
-use Rattle.sem_machine.specs.Revokes.{opened}
+use Rattle.sem_machine.specs.Revokes.{HasOwner, opened}
 use Rattle.sem_machine.specs.Sound.{IsNamed, IsSound, IsSoundBut, IsSoundCall, IsSoundUp, bit, kept, one_if, ids_owed, ids_paid}
 use Rattle.sem_machine.proofs.Weighing.{weigh-put}
-use Rattle.sem_mark.specs.Marking.{LeadsHome, HasOwner}
+use Rattle.sem_mark.specs.Marking.{LeadsHome}
 use Rattle.sem_sweep.specs.Sweeping.{CanSweepCap, IsUpOf}
 use Rattle.sem_sound.proofs.Opening.{next-job, opened-sound}
 use Rattle.sem_sound.proofs.Revoking.{reparked-sound, slack-of}

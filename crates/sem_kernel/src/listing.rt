@@ -103,6 +103,23 @@ pub fn append_enabled(
     if kernel >= setup.kernels {
         return Ok(());
     }
+    append_rows(setup, kernels, fabric, kernel, out)
+}
+
+// Appends the enabled events of one kernel of the setup, in order. In one function with the test
+// above it, the compiler would not take the rows in, and a run would take longer.
+fn append_rows(
+    setup: &Setup,
+    kernels: &[Kernel],
+    fabric: &Fabric,
+    kernel: u32,
+    out: &mut Vec<Event>,
+) -> Result<(), OutOfMemory>
+    requires together { AreKernelsOf setup.now kernels.now fabric.now }
+    requires few { kernel < setup.now.kernels }
+    ensures { OnOk result (out.new.items ≡ out.old.items
+        ++ enabled_of setup.now (world_of kernels.now fabric.now) kernel) }
+{
     let masks = append_calls(setup, kernels, fabric, kernel, out)?;
     append_vpes(kernel, VpeRow::Resumes, masks.resumes, out)?;
     append_vpes(kernel, VpeRow::Upcalls, masks.upcalls, out)?;

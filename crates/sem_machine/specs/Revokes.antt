@@ -1,6 +1,6 @@
 -- Revocation: the region of a job, how a job begins, and how it finishes ("Revocation" in
 -- docs/machine.md).
-use Rattle.std.specs.Prelude.{ℕ, zero, suc, ◌==◌, Bool, true, false, List, [], ◌∷◌, length, Option, Some, None}
+use Rattle.std.specs.Prelude.{ℕ, ◌<◌, zero, suc, ◌==◌, Bool, true, false, List, [], ◌∷◌, length, Option, Some, None}
 use Rattle.std.specs.Prelude.{if◌then◌else◌}
 use Rattle.std.specs.Option.{option_and_then}
 use Rattle.sem_msg.specs.Prelude.{KeyName, in_turn, Capability, JobRow, VpeRow, Setup, code_number, owner_of}
@@ -24,6 +24,10 @@ use Rattle.sem_machine.specs.Sides.{caps_removed, job_opened, job_removed, send}
 -- one more token is out for the job
 abbrev pub count_raised : ℕ → Side → Side
 count_raised j s = record s { jobs = JobRows.count_raised j s.jobs }
+
+-- a kernel of the setup owns the key
+abbrev pub HasOwner : Setup → KeyName → Type 0
+HasOwner T k = owner_of T k < T.kernels
 
 -- one token came back to the job
 abbrev pub count_lowered : ℕ → Side → Side

@@ -27,3 +27,20 @@ with_jobs jobs next s = record s { jobs = jobs; next_job = next }
 
 abbrev pub with_outs : List (List Message) → Side → Side
 with_outs boxes s = record s { outs = boxes }
+
+-- the side with these capabilities and VPEs
+abbrev pub owning : List Capability → List VpeRow → Side → Side
+owning caps rows s = with_caps caps (with_vpes rows s)
+
+-- the side with these capabilities, VPEs and waiting calls
+abbrev pub installing : List Capability → List VpeRow → List (Option Parked) → Side → Side
+installing caps rows states s = with_caps caps (with_vpes rows (with_parks states s))
+
+-- the side with these VPEs, waiting calls and outboxes
+abbrev pub with_vpes_parks_outs : List VpeRow → List (Option Parked) → List (List Message) → Side → Side
+with_vpes_parks_outs rows states boxes s = with_vpes rows (with_parks states (with_outs boxes s))
+
+-- the side with these capabilities, VPEs, waiting calls and outboxes
+abbrev pub with_caps_vpes_parks_outs :
+    List Capability → List VpeRow → List (Option Parked) → List (List Message) → Side → Side
+with_caps_vpes_parks_outs caps rows states boxes s = with_caps caps (with_vpes_parks_outs rows states boxes s)

@@ -14,10 +14,11 @@ use Rattle.sem_msg.specs.Rows.{JobRow}
 use Rattle.sem_msg.specs.JobRows.{job_of, ids_of, job_opened, job_changed, keep_set, with_up, count_raised}
 use Rattle.sem_msg.specs.declared.state.Up.{Up}
 use Rattle.sem_msg.specs.Setup.{Setup}
-use Rattle.sem_mark.specs.Marking.{HasOwner, LeadsHome}
+use Rattle.sem_mark.specs.Marking.{LeadsHome}
 use Rattle.sem_mark.specs.Walks.{HasCount}
 use Rattle.sem_mark.proofs.Marks.{find-map}
 use Rattle.sem_mark.proofs.SortedKeys.{key_set-from}
+use Rattle.sem_machine.specs.Revokes.{HasOwner}
 
 -- Tokens.
 

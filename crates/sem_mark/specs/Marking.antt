@@ -1,6 +1,6 @@
 -- What the calls need from the stores.
 use Rattle.std.specs.Prelude.{◌≡◌, ℕ, ◌+◌, ◌<◌, ◌≤◌, List, length, All, Option, vec_capacity}
-use Rattle.sem_machine.specs.Prelude.{KeyName, Capability, Parked, Setup, kernel_of, owner_of, OutboxList, Side, with_caps}
+use Rattle.sem_machine.specs.Prelude.{Capability, Parked, Setup, kernel_of, OutboxList, Side, with_caps}
 use Rattle.sem_machine.specs.Prelude.{with_vpes, with_parks, with_outs}
 use Rattle.sem_key.specs.CapList.{link_count}
 use Rattle.sem_msg.specs.Outboxes.{HasBoxes}
@@ -10,6 +10,7 @@ use Rattle.sem_dtu.specs.EndpointTable.{EndpointTable}
 use Rattle.sem_jobs.specs.JobStore.{JobStore}
 use Rattle.sem_jobs.specs.declared.scratch.Scratch.{Scratch}
 use Rattle.sem_machine.specs.Stores.{with_endpoints, with_jobs}
+use Rattle.sem_machine.specs.Revokes.{HasOwner}
 
 -- the side with these capabilities, endpoints, jobs and outboxes
 abbrev pub beginning : CapStore → EndpointTable → JobStore → OutboxList → Side → Side
@@ -28,14 +29,6 @@ revoking caps vpes dtus jobs park outs s =
     with_caps caps.caps
     (with_vpes vpes.rows
     (with_endpoints dtus.rows (with_jobs jobs.jobs jobs.next (with_parks park (with_outs outs.boxes s)))))
-
--- the side with these capabilities and VPEs
-abbrev pub owning : CapStore → VpeTable → Side → Side
-owning caps vpes s = with_caps caps.caps (with_vpes vpes.rows s)
-
--- a kernel of the setup owns the key
-abbrev pub HasOwner : Setup → KeyName → Type 0
-HasOwner T k = owner_of T k < T.kernels
 
 -- every child of the capability has an owner
 abbrev pub LeadsHome : Setup → Capability → Type 0

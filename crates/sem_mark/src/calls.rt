@@ -9,8 +9,9 @@ ghost use Rattle.sem_msg.specs.Outboxes.{HasBoxes};
 ghost use Rattle.sem_machine.specs.Sides.{Side, no_side, own, parked_as};
 ghost use Rattle.sem_machine.specs.Calls.{clear_row, revoke_row};
 ghost use Rattle.sem_machine.specs.Revokes.{begin, finished, opened};
+ghost use Rattle.sem_machine.specs.Stores.{owning};
 ghost use Rattle.sem_mark.specs.Marking.{CanBegin, HasRoomLeft, HasSpace, LeadsHome};
-ghost use Rattle.sem_mark.specs.Marking.{owning, pausing, revoking};
+ghost use Rattle.sem_mark.specs.Marking.{pausing, revoking};
 
 use crate::opening::{done_job, open_job};
 use crate::owned::own_refusal;
@@ -39,7 +40,7 @@ pub fn revoke_call(
     scratch: &mut Scratch,
 ) -> (Outcome, Option<u32>)
     requires can { CanBegin setup.now kernel vpe caps.old vpes.now jobs.old outs.old scratch.old }
-    requires marker { IfSome (own (owning caps.old vpes.now no_side) vpe sel)
+    requires marker { IfSome (own (owning caps.old.caps vpes.now.rows no_side) vpe sel)
         (λ c. IfSome c.mark (λ j. IsSome (job_of jobs.old.jobs j))) }
     ensures row { (s : Side) →
         record {
@@ -50,13 +51,13 @@ pub fn revoke_call(
         ≡ revoke_row setup.now kernel
         (revoking caps.old vpes.now dtus.old jobs.old park.old outs.old s) vpe sel }
     ensures opened { IsSome result.1 → (c : Capability) →
-        own (owning caps.old vpes.now no_side) vpe sel ≡ Some c → (s : Side) →
+        own (owning caps.old.caps vpes.now.rows no_side) vpe sel ≡ Some c → (s : Side) →
         revoking caps.new vpes.now dtus.new jobs.new park.new outs.new s
         ≡ opened setup.now kernel c.key None (vpe ∷ []) false
         (parked_as vpe (RevokeWait jobs.old.next)
         (revoking caps.old vpes.now dtus.old jobs.old park.old outs.old s)) }
     ensures unmarked { IsSome result.1 →
-        IsSomeAnd (own (owning caps.old vpes.now no_side) vpe sel) (λ c. c.mark ≡ None) }
+        IsSomeAnd (own (owning caps.old.caps vpes.now.rows no_side) vpe sel) (λ c. c.mark ≡ None) }
     ensures there { IfSome result.1 (λ j. IsSome (job_of jobs.new.jobs j)) }
     ensures done { IfSome result.1 (λ j. (j ≡ jobs.old.next)) }
     ensures left { HasRoomLeft setup.now caps.old jobs.old outs.old scratch.old
@@ -106,13 +107,13 @@ pub fn clear_call(
         ≡ clear_row setup.now kernel
         (revoking caps.old vpes.now dtus.old jobs.old park.old outs.old s) vpe sel }
     ensures opened { IsSome result.1 → (c : Capability) →
-        own (owning caps.old vpes.now no_side) vpe sel ≡ Some c → (s : Side) →
+        own (owning caps.old.caps vpes.now.rows no_side) vpe sel ≡ Some c → (s : Side) →
         revoking caps.new vpes.now dtus.new jobs.new park.new outs.new s
         ≡ opened setup.now kernel c.key None (vpe ∷ []) true
         (parked_as vpe (RevokeWait jobs.old.next)
         (revoking caps.old vpes.now dtus.old jobs.old park.old outs.old s)) }
     ensures unmarked { IsSome result.1 →
-        IsSomeAnd (own (owning caps.old vpes.now no_side) vpe sel) (λ c. c.mark ≡ None) }
+        IsSomeAnd (own (owning caps.old.caps vpes.now.rows no_side) vpe sel) (λ c. c.mark ≡ None) }
     ensures there { IfSome result.1 (λ j. IsSome (job_of jobs.new.jobs j)) }
     ensures done { IfSome result.1 (λ j. (j ≡ jobs.old.next)) }
     ensures left { HasRoomLeft setup.now caps.old jobs.old outs.old scratch.old

@@ -10,10 +10,10 @@ ghost use Rattle.sem_msg.specs.JobRows.{with_up};
 ghost use Rattle.sem_msg.specs.declared.state.Up.TheVariants.{Local};
 ghost use Rattle.sem_msg.specs.Outboxes.{HasBoxes};
 ghost use Rattle.sem_machine.specs.Sides.{Side};
-ghost use Rattle.sem_machine.specs.Revokes.{opened, other_marker as other_marker_lem};
+ghost use Rattle.sem_machine.specs.Revokes.{HasOwner, opened, other_marker as other_marker_lem};
 ghost use Rattle.sem_machine.specs.Revokes.{request_or_adopt as request_or_adopt_lem};
 ghost use Rattle.sem_machine.specs.Stores.{with_caps, with_jobs, with_outs};
-ghost use Rattle.sem_mark.specs.Marking.{beginning, HasOwner, HasSpace, LeadsHome};
+ghost use Rattle.sem_mark.specs.Marking.{beginning, HasSpace, LeadsHome};
 ghost use Rattle.sem_mark.specs.Walks.{HasCount};
 
 use crate::messages::request;

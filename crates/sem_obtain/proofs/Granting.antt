@@ -26,9 +26,9 @@ use Rattle.sem_machine.specs.Sides
 use Rattle.sem_machine.specs.Steps.{Step, first_code, plain, asking, granting}
 use Rattle.sem_machine.specs.Asks.{is_obtain_wait, ask_refused}
 use Rattle.sem_machine.specs.Upcalls.{source, source_tests, given, given_kind, given_here, child_given, obtain_consent, ask_decided}
-use Rattle.sem_machine.specs.Stores.{with_caps, with_vpes, with_parks}
+use Rattle.sem_machine.specs.Stores.{installing, with_caps, with_parks, with_vpes}
 use Rattle.sem_machine.proofs.FirstCodes.{unless-first}
-use Rattle.sem_obtain.specs.Asking.{is_unawaited, answer_to, installing, child_sent}
+use Rattle.sem_obtain.specs.Asking.{is_unawaited, answer_to, child_sent}
 
 -- an ask that is dropped
 pub decided-dropped : (T : Setup) (i v : ℕ) (place : PlaceName) (target : Target) (s : Side) → answer_to T i v s.parks place ≡ Dropped →
@@ -106,8 +106,8 @@ child-here T i parent key object s here = rw (eq-eqb (kernel_of T key.vpe) i her
 pub given-waiting : (s : Side) (caps caps' : CapStore) (vpes vpes' : VpeTable) (park park' : List (Option Parked)) (k p : KeyName) (o : Object) (number sel : ℕ)
     → state_of park k.vpe ≡ Some (ObtainWait number sel) → park' ≡ parked_as park k.vpe (Ready (code_number OkCode))
     → ((t : Side) → with_caps caps'.caps (with_vpes vpes'.rows t) ≡ installed k (Some p) sel o (with_caps caps.caps (with_vpes vpes.rows t)))
-    → installing caps' vpes' park' s ≡ given_here k p o (state_of park k.vpe) (installing caps vpes park s)
+    → installing caps'.caps vpes'.rows park' s ≡ given_here k p o (state_of park k.vpe) (installing caps.caps vpes.rows park s)
 given-waiting s caps caps' vpes vpes' park park' k p o number sel waits ready row =
     row (with_parks park' s)
     ∙ (λ i. installed k (Some p) sel o (with_caps caps.caps (with_vpes vpes.rows (with_parks (ready i) s))))
-    ∙ ap (λ (state : Option Parked). given_here k p o state (installing caps vpes park s)) (sym waits)
+    ∙ ap (λ (state : Option Parked). given_here k p o state (installing caps.caps vpes.rows park s)) (sym waits)

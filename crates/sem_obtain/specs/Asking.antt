@@ -1,8 +1,8 @@
 -- What the calls need from the stores.
 use Rattle.std.specs.Prelude.{◌≡◌, ℕ, ◌==◌, Bool, true, not, ◌&&◌, List, Option, Some, None, if◌then◌else◌}
 use Rattle.sem_machine.specs.Prelude.{Kind, Object, KeyName, PlaceName, Capability, cap_of, ObtainOk, Yes, No, Parked}
-use Rattle.sem_machine.specs.Prelude.{ObtainReady, ObtainCancelled, Setup, kernel_of, owner_of, OutboxList, Side}
-use Rattle.sem_machine.specs.Prelude.{parked, send, is_obtain_wait, with_caps, with_vpes, with_parks, with_outs}
+use Rattle.sem_machine.specs.Prelude.{ObtainReady, ObtainCancelled, Setup, kernel_of, owner_of, Side}
+use Rattle.sem_machine.specs.Prelude.{parked, send, is_obtain_wait}
 use Rattle.sem_key.specs.PlaceName.{keyed}
 use Rattle.sem_key.specs.ObjectRanges.{object_kind, IsValidObject}
 use Rattle.sem_msg.specs.declared.entry.Consent.{Consent}
@@ -10,28 +10,8 @@ use Rattle.sem_msg.specs.declared.entry.Consent.TheVariants.{Dropped}
 use Rattle.sem_msg.specs.Lookups.{denies}
 use Rattle.sem_msg.specs.ParkedStates.{state_of}
 use Rattle.sem_caps.specs.CapStore.{CapStore}
-use Rattle.sem_vpe.specs.VpeTable.{VpeTable}
 use Rattle.sem_machine.specs.Sides.{linked}
 use Rattle.sem_machine.specs.Upcalls.{given_here}
-
--- the side with these VPEs, waiting calls and outboxes
-abbrev pub with_vpes_parks_outs : VpeTable → List (Option Parked) → OutboxList → Side → Side
-with_vpes_parks_outs vpes park outs s =
-    with_vpes vpes.rows (with_parks park (with_outs outs.boxes s))
-
--- the side with these capabilities and VPEs
-abbrev pub holding : CapStore → VpeTable → Side → Side
-holding caps vpes s = with_caps caps.caps (with_vpes vpes.rows s)
-
--- the side with these capabilities, VPEs and waiting calls
-abbrev pub installing : CapStore → VpeTable → List (Option Parked) → Side → Side
-installing caps vpes park s = with_caps caps.caps (with_vpes vpes.rows (with_parks park s))
-
--- the side with these capabilities, VPEs, waiting calls and outboxes
-abbrev pub with_caps_vpes_parks_outs :
-    CapStore → VpeTable → List (Option Parked) → OutboxList → Side → Side
-with_caps_vpes_parks_outs caps vpes park outs s =
-    with_caps caps.caps (with_vpes_parks_outs vpes park outs s)
 
 -- whether the asker is of kernel i and does not wait for the answer
 abbrev pub is_unawaited : Setup → ℕ → List (Option Parked) → PlaceName → Bool

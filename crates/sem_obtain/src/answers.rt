@@ -3,15 +3,13 @@ ghost use Rattle.sem_msg.specs.declared.message.Message.TheVariants.{ObtainNo, O
 ghost use Rattle.sem_msg.specs.declared.message.Message.TheVariants.{Orphan};
 ghost use Rattle.sem_msg.specs.Lookups.{kernel_of as kernel_of_lem, owner_of as owner_of_lem};
 ghost use Rattle.sem_msg.specs.Lookups.{place_owner as place_owner_lem};
-ghost use Rattle.sem_msg.specs.Message.{Fits, IsRefusal};
+ghost use Rattle.sem_msg.specs.Message.{Fits};
 ghost use Rattle.sem_msg.specs.Outboxes.{HasBoxes};
 ghost use Rattle.sem_vpe.specs.VpeTable.{AreOurs};
-ghost use Rattle.sem_msg.specs.Codes.{code_number};
 ghost use Rattle.sem_machine.specs.Asks.{target_vpe as target_vpe_lem};
 ghost use Rattle.sem_machine.specs.Sides.{Side};
 ghost use Rattle.sem_machine.specs.Handles.{handle_row};
-ghost use Rattle.sem_machine.specs.Stores.{with_vpes, with_parks, with_outs};
-ghost use Rattle.sem_obtain.specs.Asking.{with_vpes_parks_outs};
+ghost use Rattle.sem_machine.specs.Stores.{with_outs, with_parks, with_vpes, with_vpes_parks_outs};
 
 use crate::ends::{refuse_call, send_refusal};
 use sem_key::{Key, Object, Place};
@@ -46,9 +44,9 @@ pub fn obtain_answer(
     requires boxes { HasBoxes setup.now outs.old }
     requires spare { 0 < outs.old.spare }
     ensures row { (from : ℕ) (s : Side) →
-        with_vpes_parks_outs vpes.now park.new outs.new s
-        ≡ handle_row setup.now kernel (with_vpes_parks_outs vpes.now park.old outs.old s) from
-        (ObtainOk parent key object) }
+        with_vpes_parks_outs vpes.now.rows park.new outs.new.boxes s
+        ≡ handle_row setup.now kernel (with_vpes_parks_outs vpes.now.rows park.old outs.old.boxes s)
+        from (ObtainOk parent key object) }
     ensures boxes { HasBoxes setup.now outs.new }
     ensures spare { outs.old.spare ≤ outs.new.spare + 1 }
 {

@@ -8,8 +8,7 @@ ghost use Rattle.sem_machine.specs.Asks.{target_vpe as target_vpe_lem};
 ghost use Rattle.sem_machine.specs.Sides.{Side, no_side};
 ghost use Rattle.sem_machine.specs.Steps.{first_code, plain};
 ghost use Rattle.sem_machine.specs.Calls.{ask_made, destination_tests};
-ghost use Rattle.sem_machine.specs.Stores.{with_vpes};
-ghost use Rattle.sem_obtain.specs.Asking.{with_vpes_parks_outs};
+ghost use Rattle.sem_machine.specs.Stores.{with_vpes, with_vpes_parks_outs};
 
 use sem_key::Place;
 use sem_msg::{Ask, Message, Outboxes, Parked, Setup, Target};
@@ -48,9 +47,9 @@ pub fn make_ask(
     requires boxes { HasBoxes setup.now outs.old }
     requires spare { 0 < outs.old.spare }
     ensures row { (s : Side) →
-        plain (with_vpes_parks_outs vpes.new park.new outs.new s)
+        plain (with_vpes_parks_outs vpes.new.rows park.new outs.new.boxes s)
         ≡ ask_made setup.now kernel vpe dst target
-        (with_vpes_parks_outs vpes.old park.old outs.old s) }
+        (with_vpes_parks_outs vpes.old.rows park.old outs.old.boxes s) }
     ensures ours { vpes.new.ours ≡ vpes.old.ours }
     ensures boxes { HasBoxes setup.now outs.new }
     ensures spare { outs.old.spare ≤ outs.new.spare + 1 }

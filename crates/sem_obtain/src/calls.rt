@@ -10,7 +10,7 @@ ghost use Rattle.sem_vpe.specs.VpeTable.{AreOurs};
 ghost use Rattle.sem_machine.specs.Sides.{Side, no_side, own};
 ghost use Rattle.sem_machine.specs.Sound.{IsSoundObject};
 ghost use Rattle.sem_machine.specs.Calls.{obtain_row, offer_row, open_row};
-ghost use Rattle.sem_obtain.specs.Asking.{holding, with_caps_vpes_parks_outs, with_vpes_parks_outs};
+ghost use Rattle.sem_machine.specs.Stores.{owning, with_caps_vpes_parks_outs, with_vpes_parks_outs};
 
 use crate::asks::make_ask;
 use crate::lookups::{service_key, session_service};
@@ -40,9 +40,12 @@ pub fn obtain_call(
     requires boxes { HasBoxes setup.now outs.old }
     requires spare { 0 < outs.old.spare }
     ensures row { (s : Side) →
-        record { side = with_vpes_parks_outs vpes.new park.new outs.new s; outcome = result }
-        ≡ obtain_row setup.now kernel (with_vpes_parks_outs vpes.old park.old outs.old s) vpe dst
-        other src }
+        record {
+          side = with_vpes_parks_outs vpes.new.rows park.new outs.new.boxes s;
+          outcome = result;
+        }
+        ≡ obtain_row setup.now kernel (with_vpes_parks_outs vpes.old.rows park.old outs.old.boxes s)
+        vpe dst other src }
     ensures ours { vpes.new.ours ≡ vpes.old.ours }
     ensures boxes { HasBoxes setup.now outs.new }
     ensures spare { outs.old.spare ≤ outs.new.spare + 1 }
@@ -83,9 +86,12 @@ pub fn open_call(
     requires boxes { HasBoxes setup.now outs.old }
     requires spare { 0 < outs.old.spare }
     ensures row { (s : Side) →
-        record { side = with_vpes_parks_outs vpes.new park.new outs.new s; outcome = result }
-        ≡ open_row setup.now kernel (with_vpes_parks_outs vpes.old park.old outs.old s) vpe dst
-        name }
+        record {
+          side = with_vpes_parks_outs vpes.new.rows park.new outs.new.boxes s;
+          outcome = result;
+        }
+        ≡ open_row setup.now kernel (with_vpes_parks_outs vpes.old.rows park.old outs.old.boxes s)
+        vpe dst name }
     ensures ours { vpes.new.ours ≡ vpes.old.ours }
     ensures boxes { HasBoxes setup.now outs.new }
     ensures spare { outs.old.spare ≤ outs.new.spare + 1 }
@@ -128,17 +134,18 @@ pub fn offer_call(
     requires home { AreOurs setup.now kernel vpes.old }
     requires vpe { kernel_of_lem setup.now vpe ≡ kernel }
     requires declared { is_declared setup.now vpe ≡ true }
-    requires session { IfSome (own (holding caps.now vpes.old no_side) vpe session)
+    requires session { IfSome (own (owning caps.now.caps vpes.old.rows no_side) vpe session)
         (λ c. IsSoundObject setup.now c.object) }
     requires boxes { HasBoxes setup.now outs.old }
     requires spare { 0 < outs.old.spare }
     ensures row { (s : Side) →
         record {
-          side = with_caps_vpes_parks_outs caps.now vpes.new park.new outs.new s;
+          side = with_caps_vpes_parks_outs caps.now.caps vpes.new.rows park.new outs.new.boxes s;
           outcome = result;
         }
         ≡ offer_row setup.now kernel
-        (with_caps_vpes_parks_outs caps.now vpes.old park.old outs.old s) vpe dst session index }
+        (with_caps_vpes_parks_outs caps.now.caps vpes.old.rows park.old outs.old.boxes s) vpe dst
+        session index }
     ensures ours { vpes.new.ours ≡ vpes.old.ours }
     ensures boxes { HasBoxes setup.now outs.new }
     ensures spare { outs.old.spare ≤ outs.new.spare + 1 }

@@ -10,8 +10,7 @@ ghost use Rattle.sem_msg.specs.Outboxes.{box_for, with_box, HasBoxes};
 ghost use Rattle.sem_vpe.specs.VpeTable.{AreOurs, IsOurs};
 ghost use Rattle.sem_machine.specs.Asks.{ask_refused, call_refused};
 ghost use Rattle.sem_machine.specs.Sides.{Side};
-ghost use Rattle.sem_machine.specs.Stores.{with_parks, with_vpes};
-ghost use Rattle.sem_obtain.specs.Asking.{with_vpes_parks_outs};
+ghost use Rattle.sem_machine.specs.Stores.{with_parks, with_vpes, with_vpes_parks_outs};
 
 use sem_key::Place;
 use sem_msg::{Code, Message, Outboxes, Parked, Setup};
@@ -77,9 +76,9 @@ pub fn refuse_ask(
     requires boxes { HasBoxes setup.now outs.old }
     requires spare { 0 < outs.old.spare }
     ensures row { (target : Target) (s : Side) →
-        with_vpes_parks_outs vpes.new park.new outs.new s
+        with_vpes_parks_outs vpes.new.rows park.new outs.new.boxes s
         ≡ ask_refused setup.now kernel code (ObtainAsk place target)
-        (with_vpes_parks_outs vpes.old park.old outs.old s) }
+        (with_vpes_parks_outs vpes.old.rows park.old outs.old.boxes s) }
     ensures ours { vpes.new.ours ≡ vpes.old.ours }
     ensures boxes { HasBoxes setup.now outs.new }
     ensures spare { outs.old.spare ≤ outs.new.spare + 1 }

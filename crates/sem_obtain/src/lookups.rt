@@ -9,7 +9,7 @@ ghost use Rattle.sem_vpe.specs.VpeTable.{IsOurs};
 ghost use Rattle.sem_machine.specs.Sides.{no_side, own};
 ghost use Rattle.sem_machine.specs.Calls.{session_service as session_service_lem};
 ghost use Rattle.sem_machine.specs.Upcalls.{source as source_lem};
-ghost use Rattle.sem_obtain.specs.Asking.{holding};
+ghost use Rattle.sem_machine.specs.Stores.{owning};
 
 use sem_caps::Caps;
 use sem_key::{Cap, Key, Object, same_key};
@@ -69,7 +69,7 @@ fn offered(setup: &Setup, key: Key, index: u8) -> Option<u8>
 pub fn session_service(caps: &Caps, vpes: &Vpes, vpe: u16, sel: u8) -> Option<Key>
     requires { IsOurs vpes.now vpe }
     ensures { result ≡ option_and_then (λ c. session_service_lem c.object)
-        (own (holding caps.now vpes.now no_side) vpe sel) }
+        (own (owning caps.now.caps vpes.now.rows no_side) vpe sel) }
 {
     match caps.get(vpes.held_key(vpe, sel)?)?.object {
         Object::Sess { service, .. } => Some(service),
@@ -88,7 +88,7 @@ pub fn source<'a>(
 ) -> Option<&'a Cap>
     requires { IsOurs vpes.now vpe }
     ensures { option_map capability_of (option_copied result)
-        ≡ source_lem setup.now (holding caps.now vpes.now no_side) vpe target.now }
+        ≡ source_lem setup.now (owning caps.now.caps vpes.now.rows no_side) vpe target.now }
 {
     match target {
         Target::Sel { sel, .. } => caps.get(vpes.held_key(vpe, *sel)?),

@@ -5,9 +5,8 @@ ghost use Rattle.sem_vpe.specs.VpeTable.{AreOurs, IsOurs};
 ghost use Rattle.sem_machine.specs.Sides.{no_side};
 ghost use Rattle.sem_machine.specs.Steps.{first_code};
 ghost use Rattle.sem_machine.specs.Calls.{obtain_tests, offer_tests, open_tests};
-ghost use Rattle.sem_machine.specs.Stores.{with_vpes};
+ghost use Rattle.sem_machine.specs.Stores.{owning, with_vpes};
 ghost use Rattle.sem_machine.specs.Upcalls.{source as source_lem, source_tests};
-ghost use Rattle.sem_obtain.specs.Asking.{holding};
 
 use crate::lookups::{service_key, source};
 use sem_caps::Caps;
@@ -80,7 +79,8 @@ pub fn offer_refusal(
     requires home { AreOurs setup.now kernel vpes.now }
     requires ours { IsOurs vpes.now vpe }
     ensures { result ≡ first_code
-        (offer_tests setup.now kernel (holding caps.now vpes.now no_side) vpe dst session) }
+        (offer_tests setup.now kernel (owning caps.now.caps vpes.now.rows no_side)
+        vpe dst session) }
 {
     let Some(cap) = vpes.held_key(vpe, session).and_then(|key| caps.get(key)) else {
         return Some(Code::NoCap);
@@ -108,7 +108,7 @@ pub fn source_refusal(
     requires { IsOurs vpes.now vpe }
     ensures code { result
         ≡ first_code (source_tests target.now
-        (source_lem setup.now (holding caps.now vpes.now no_side) vpe target.now)) }
+        (source_lem setup.now (owning caps.now.caps vpes.now.rows no_side) vpe target.now)) }
     ensures refusal { IfSome result (λ code. IsRefusal (code_number code)) }
 {
     let Some(cap) = source(setup, vpe, target, caps, vpes) else {

@@ -15,8 +15,8 @@ ghost use Rattle.sem_vpe.specs.VpeTable.{AreOurs, IsOurs};
 ghost use Rattle.sem_machine.specs.Sides.{Side, no_side};
 ghost use Rattle.sem_machine.specs.Upcalls.{ask_decided, given as given_lem, given_here};
 ghost use Rattle.sem_machine.specs.Upcalls.{obtain_consent, source as source_lem};
+ghost use Rattle.sem_machine.specs.Stores.{installing, owning, with_caps_vpes_parks_outs};
 ghost use Rattle.sem_obtain.specs.Asking.{answer_to, is_unawaited as is_unawaited_lem, child_sent};
-ghost use Rattle.sem_obtain.specs.Asking.{holding, installing, with_caps_vpes_parks_outs};
 ghost use Rattle.sem_obtain.specs.Asking.{IsGivable, IsUnusedNumber};
 
 use crate::ends::refuse_ask;
@@ -48,7 +48,8 @@ pub fn obtain_upcall(
     requires vpe { kernel_of_lem setup.now vpe ≡ kernel }
     requires owner { place_owner_lem setup.now place < setup.now.kernels }
     requires target { IsValidTarget target }
-    requires source { IfSome (source_lem setup.now (holding caps.old vpes.old no_side) vpe target)
+    requires source { IfSome
+        (source_lem setup.now (owning caps.old.caps vpes.old.rows no_side) vpe target)
         (IsGivable caps.old) }
     requires free { IsUnusedNumber caps.old park.old place }
     requires spare { 0 < caps.old.spare }
@@ -56,11 +57,11 @@ pub fn obtain_upcall(
     requires messages { 0 < outs.old.spare }
     ensures row { (s : Side) →
         record {
-          side = with_caps_vpes_parks_outs caps.new vpes.new park.new outs.new s;
+          side = with_caps_vpes_parks_outs caps.new.caps vpes.new.rows park.new outs.new.boxes s;
           outcome = result;
         }
         ≡ ask_decided setup.now kernel vpe (ObtainAsk place target)
-        (with_caps_vpes_parks_outs caps.old vpes.old park.old outs.old s) }
+        (with_caps_vpes_parks_outs caps.old.caps vpes.old.rows park.old outs.old.boxes s) }
     ensures ours { vpes.new.ours ≡ vpes.old.ours }
     ensures spare { caps.old.spare ≤ caps.new.spare + 1 }
     ensures boxes { HasBoxes setup.now outs.new }
@@ -114,7 +115,8 @@ fn consent(
     requires vpe { kernel_of_lem setup.now vpe ≡ kernel }
     requires owner { place_owner_lem setup.now place < setup.now.kernels }
     requires target { IsValidTarget target }
-    requires source { IfSome (source_lem setup.now (holding caps.old vpes.old no_side) vpe target)
+    requires source { IfSome
+        (source_lem setup.now (owning caps.old.caps vpes.old.rows no_side) vpe target)
         (IsGivable caps.old) }
     requires free { (kind : Kind) → kernel_of_lem setup.now place.vpe ≡ kernel →
         cap_of caps.old.caps (keyed_lem place kind) ≡ None }
@@ -123,11 +125,11 @@ fn consent(
     requires messages { 0 < outs.old.spare }
     ensures row { (s : Side) →
         record {
-          side = with_caps_vpes_parks_outs caps.new vpes.new park.new outs.new s;
+          side = with_caps_vpes_parks_outs caps.new.caps vpes.new.rows park.new outs.new.boxes s;
           outcome = record { asked = None; grant = result; cut = None; reply = None };
         }
         ≡ obtain_consent setup.now kernel vpe place target
-        (with_caps_vpes_parks_outs caps.old vpes.old park.old outs.old s) }
+        (with_caps_vpes_parks_outs caps.old.caps vpes.old.rows park.old outs.old.boxes s) }
     ensures ours { vpes.new.ours ≡ vpes.old.ours }
     ensures spare { caps.old.spare ≤ caps.new.spare + 1 }
     ensures boxes { HasBoxes setup.now outs.new }
@@ -180,9 +182,9 @@ fn give(
     requires boxes { HasBoxes setup.now outs.old }
     requires messages { 0 < outs.old.spare }
     ensures row { (s : Side) →
-        with_caps_vpes_parks_outs caps.new vpes.new park.new outs.new s
+        with_caps_vpes_parks_outs caps.new.caps vpes.new.rows park.new outs.new.boxes s
         ≡ child_sent setup.now kernel parent key object
-        (with_caps_vpes_parks_outs caps.old vpes.old park.old outs.old s) }
+        (with_caps_vpes_parks_outs caps.old.caps vpes.old.rows park.old outs.old.boxes s) }
     ensures ours { vpes.new.ours ≡ vpes.old.ours }
     ensures spare { caps.old.spare ≤ caps.new.spare + 1 }
     ensures boxes { HasBoxes setup.now outs.new }
@@ -209,9 +211,9 @@ fn give_here(
     requires absent { cap_of caps.old.caps key ≡ None }
     requires spare { 0 < caps.old.spare }
     ensures row { (s : Side) →
-        installing caps.new vpes.new park.new s
+        installing caps.new.caps vpes.new.rows park.new s
         ≡ given_here key parent object (state_of park.old key.vpe)
-        (installing caps.old vpes.old park.old s) }
+        (installing caps.old.caps vpes.old.rows park.old s) }
     ensures ours { vpes.new.ours ≡ vpes.old.ours }
     ensures spare { caps.old.spare ≤ caps.new.spare + 1 }
 {

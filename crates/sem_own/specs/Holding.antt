@@ -1,14 +1,10 @@
 -- What the calls need from the stores.
 use Rattle.std.specs.Prelude.{◌≡◌, ℕ, Some, None}
-use Rattle.sem_machine.specs.Prelude.{Kind, cap_of, Slot, Free, Held, Promised, Setup, Side, with_caps, with_vpes}
+use Rattle.sem_machine.specs.Prelude.{Kind, cap_of, Slot, Free, Held, Promised, Setup}
 use Rattle.sem_msg.specs.Lookups.{pe_of}
 use Rattle.sem_msg.specs.VpeRows.{row}
 use Rattle.sem_caps.specs.CapStore.{CapStore, held_key}
 use Rattle.sem_vpe.specs.VpeTable.{VpeTable}
-
--- the side with these capabilities and VPEs
-abbrev pub holding : CapStore → VpeTable → Side → Side
-holding caps vpes s = with_caps caps.caps (with_vpes vpes.rows s)
 
 -- no capability has the number that the VPE draws next
 abbrev pub IsNextFree : Setup → CapStore → VpeTable → ℕ → Type 0

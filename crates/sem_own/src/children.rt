@@ -1,5 +1,4 @@
 ghost use Rattle.std.specs.Prelude.{◌≡◌, ◌<◌, ◌≤◌, ◌+◌, true, Some};
-ghost use Rattle.sem_key.specs.ObjectRanges.{object_kind};
 ghost use Rattle.sem_key.specs.declared.object.Object.TheVariants.{Send};
 ghost use Rattle.sem_msg.specs.Lookups.{is_declared};
 ghost use Rattle.sem_msg.specs.VpeRows.{row, slot};
@@ -7,7 +6,8 @@ ghost use Rattle.sem_vpe.specs.VpeTable.{IsOurs};
 ghost use Rattle.sem_machine.specs.Sides.{Side};
 ghost use Rattle.sem_machine.specs.Calls.{child_made, derive_row, gate_row};
 ghost use Rattle.sem_machine.specs.Calls.{narrowed as narrowed_lem};
-ghost use Rattle.sem_own.specs.Holding.{holding, IsNextFree, HasChildRoom};
+ghost use Rattle.sem_machine.specs.Stores.{owning};
+ghost use Rattle.sem_own.specs.Holding.{IsNextFree, HasChildRoom};
 
 use crate::refusals::{derive_refusal, gate_refusal};
 use sem_caps::Caps;
@@ -39,9 +39,9 @@ pub fn derive_call(
     requires child_room { HasChildRoom caps.old (slot vpes.old.rows vpe src) }
     requires spare { 0 < caps.old.spare }
     ensures row { (s : Side) →
-        record { side = holding caps.new vpes.new s; outcome = result }
-        ≡ derive_row setup.now (holding caps.old vpes.old s) vpe src dst part.now.off part.now.len
-        part.now.rights }
+        record { side = owning caps.new.caps vpes.new.rows s; outcome = result }
+        ≡ derive_row setup.now (owning caps.old.caps vpes.old.rows s) vpe src dst part.now.off
+        part.now.len part.now.rights }
     ensures ours { vpes.new.ours ≡ vpes.old.ours }
     ensures spare { caps.old.spare ≤ caps.new.spare + 1 }
 {
@@ -73,8 +73,8 @@ pub fn gate_call(
     requires child_room { HasChildRoom caps.old (slot vpes.old.rows vpe src) }
     requires spare { 0 < caps.old.spare }
     ensures row { (s : Side) →
-        record { side = holding caps.new vpes.new s; outcome = result }
-        ≡ gate_row setup.now (holding caps.old vpes.old s) vpe src dst label credits }
+        record { side = owning caps.new.caps vpes.new.rows s; outcome = result }
+        ≡ gate_row setup.now (owning caps.old.caps vpes.old.rows s) vpe src dst label credits }
     ensures ours { vpes.new.ours ≡ vpes.old.ours }
     ensures spare { caps.old.spare ≤ caps.new.spare + 1 }
 {
@@ -124,8 +124,8 @@ fn make_child(
     requires child_room { caps.old.child_room ≡ Some parent }
     requires spare { 0 < caps.old.spare }
     ensures row { (s : Side) →
-        record { side = holding caps.new vpes.new s; outcome = result }
-        ≡ child_made setup.now vpe dst object parent (holding caps.old vpes.old s) }
+        record { side = owning caps.new.caps vpes.new.rows s; outcome = result }
+        ≡ child_made setup.now vpe dst object parent (owning caps.old.caps vpes.old.rows s) }
     ensures ours { vpes.new.ours ≡ vpes.old.ours }
     ensures spare { caps.old.spare ≤ caps.new.spare + 1 }
 {

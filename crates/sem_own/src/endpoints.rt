@@ -1,13 +1,12 @@
-ghost use Rattle.std.specs.Prelude.{◌≡◌, ◌<◌, IfSome, option_copied};
+ghost use Rattle.std.specs.Prelude.{◌≡◌, ◌<◌, IfSome};
 ghost use Rattle.sem_key.specs.ObjectRanges.{IsValidObject};
 ghost use Rattle.sem_msg.specs.declared.limits.TheConstants.{ENDPOINTS};
 ghost use Rattle.sem_vpe.specs.VpeTable.{IsOurs as IsOurVpe};
 ghost use Rattle.sem_dtu.specs.EndpointTable.{IsOurs};
-ghost use Rattle.sem_dtu.specs.declared.op.Op.TheVariants.{Read, Write, Send as SendOp, Credit};
+ghost use Rattle.sem_dtu.specs.declared.op.Op.TheVariants.{Read, Write, Credit};
 ghost use Rattle.sem_machine.specs.Sides.{Side, no_side, own};
 ghost use Rattle.sem_machine.specs.Calls.{bind_row, credit_row, memory_row, send_row};
-ghost use Rattle.sem_machine.specs.Stores.{with_endpoints};
-ghost use Rattle.sem_own.specs.Holding.{holding};
+ghost use Rattle.sem_machine.specs.Stores.{owning, with_endpoints};
 ghost use Rattle.sem_own.specs.Using.{use_row};
 
 use crate::refusals::bind_refusal;
@@ -22,14 +21,15 @@ pub fn bind_call(vpe: u16, ep: u8, src: u8, caps: &Caps, vpes: &Vpes, dtus: &mut
     requires vpe { IsOurVpe vpes.now vpe }
     requires ours { IsOurs dtus.old vpe }
     requires ep { ep < ENDPOINTS }
-    requires valid { IfSome (own (holding caps.now vpes.now no_side) vpe src)
+    requires valid { IfSome (own (owning caps.now.caps vpes.now.rows no_side) vpe src)
         (λ c. IsValidObject c.object) }
     ensures row { (s : Side) →
         record {
-          side = with_endpoints dtus.new.rows (holding caps.now vpes.now s);
+          side = with_endpoints dtus.new.rows (owning caps.now.caps vpes.now.rows s);
           outcome = result;
         }
-        ≡ bind_row (with_endpoints dtus.old.rows (holding caps.now vpes.now s)) vpe ep src }
+        ≡ bind_row (with_endpoints dtus.old.rows (owning caps.now.caps vpes.now.rows s))
+        vpe ep src }
     ensures ours { dtus.new.ours ≡ dtus.old.ours }
 {
     if let Some(code) = bind_refusal(caps, vpes, vpe, src) {

@@ -3,9 +3,9 @@ ghost use Rattle.sem_vpe.specs.VpeTable.{IsOurs};
 ghost use Rattle.sem_machine.specs.Sides.{no_side};
 ghost use Rattle.sem_machine.specs.Steps.{first_code};
 ghost use Rattle.sem_machine.specs.Calls.{bind_tests, derive_tests};
-ghost use Rattle.sem_machine.specs.Calls.{exceeds_slots as exceeds_slots_lem, gate_tests};
+ghost use Rattle.sem_machine.specs.Calls.{gate_tests};
 ghost use Rattle.sem_machine.specs.Calls.{is_wider as is_wider_lem};
-ghost use Rattle.sem_own.specs.Holding.{holding};
+ghost use Rattle.sem_machine.specs.Stores.{owning};
 
 use crate::children::Part;
 use sem_caps::Caps;
@@ -37,8 +37,8 @@ pub fn derive_refusal(
 ) -> Option<Code>
     requires { IsOurs vpes.now vpe }
     ensures { result ≡ first_code
-        (derive_tests (holding caps.now vpes.now no_side) vpe src dst part.now.off part.now.len
-        part.now.rights) }
+        (derive_tests (owning caps.now.caps vpes.now.rows no_side) vpe src dst part.now.off
+        part.now.len part.now.rights) }
 {
     let Some(cap) = vpes.held_key(vpe, src).and_then(|key| caps.get(key)) else {
         return Some(Code::NoCap);
@@ -64,7 +64,7 @@ pub fn gate_refusal(
 ) -> Option<Code>
     requires { IsOurs vpes.now vpe }
     ensures { result ≡ first_code
-        (gate_tests (holding caps.now vpes.now no_side) vpe src dst credits) }
+        (gate_tests (owning caps.now.caps vpes.now.rows no_side) vpe src dst credits) }
 {
     let Some(cap) = vpes.held_key(vpe, src).and_then(|key| caps.get(key)) else {
         return Some(Code::NoCap);
@@ -82,7 +82,8 @@ pub fn gate_refusal(
 // Why the VPE can't bind an endpoint to the capability at `src`.
 pub fn bind_refusal(caps: &Caps, vpes: &Vpes, vpe: u16, src: u8) -> Option<Code>
     requires { IsOurs vpes.now vpe }
-    ensures { result ≡ first_code (bind_tests (holding caps.now vpes.now no_side) vpe src) }
+    ensures { result ≡ first_code
+        (bind_tests (owning caps.now.caps vpes.now.rows no_side) vpe src) }
 {
     let Some(cap) = vpes.held_key(vpe, src).and_then(|key| caps.get(key)) else {
         return Some(Code::NoCap);

@@ -23,8 +23,8 @@ use Rattle.sem_msg.specs.JobRows.{job_of, job_removed, count_lowered, told, next
 use Rattle.sem_vpe.specs.VpeTable.{VpeTable, AreOurs, IsOurs}
 use Rattle.sem_caps.specs.CapStore.{key_and_selector}
 use Rattle.sem_machine.specs.Sides.{Side}
-use Rattle.sem_machine.specs.Revokes.{all_freed, closed, finish, spared}
-use Rattle.sem_sweep.specs.Sweeping.{HasOwner, CanSweepCap, IsUpOf, pairs_freed, parent_messages, up_messages}
+use Rattle.sem_machine.specs.Revokes.{HasOwner, all_freed, closed, finish, spared}
+use Rattle.sem_sweep.specs.Sweeping.{CanSweepCap, IsUpOf, pairs_freed, parent_messages, up_messages}
 
 pub filter-length : {X : Type 0} (p : X → Bool) (xs : List X) → length (filter p xs) ≤ length xs
 filter-length p [] = omega arith

@@ -3,7 +3,7 @@ use Rattle.std.specs.Prelude.{◌≡◌, ℕ, ◌<◌, ◌==◌, Bool, true, fal
 use Rattle.std.specs.Prelude.{IfSome, if◌then◌else◌}
 use Rattle.sem_machine.specs.Prelude.{KeyName, PlaceName, in_turn, Capability, Dead, Ask, ObtainAsk, DelegateAsk}
 use Rattle.sem_machine.specs.Prelude.{Parked, ObtainReady, DelegateReady, Up, Local, Remote, JobRow, VpeRow}
-use Rattle.sem_machine.specs.Prelude.{OutboxList, Setup, kernel_of, owner_of, Side, parked, is_obtain_wait, with_caps}
+use Rattle.sem_machine.specs.Prelude.{OutboxList, Setup, kernel_of, Side, parked, is_obtain_wait, with_caps}
 use Rattle.sem_machine.specs.Prelude.{with_vpes, with_parks, with_outs}
 use Rattle.sem_msg.specs.Codes.{code_number}
 use Rattle.sem_msg.specs.VpeRows.{freed}
@@ -12,34 +12,19 @@ use Rattle.sem_caps.specs.CapStore.{CapStore}
 use Rattle.sem_vpe.specs.VpeTable.{VpeTable}
 use Rattle.sem_jobs.specs.JobStore.{JobStore}
 use Rattle.sem_machine.specs.Sides.{with_row, unparked, caps_removed}
-use Rattle.sem_machine.specs.Revokes.{selectors_freed}
+use Rattle.sem_machine.specs.Revokes.{HasOwner, selectors_freed}
 use Rattle.sem_machine.specs.Asks.{call_refused}
 use Rattle.sem_machine.specs.Ends.{call_ended}
 use Rattle.sem_machine.specs.Stores.{with_jobs}
-
--- the side with these VPEs, waiting calls and outboxes
-abbrev pub with_vpes_parks_outs : VpeTable → List (Option Parked) → OutboxList → Side → Side
-with_vpes_parks_outs vpes park outs s =
-    with_vpes vpes.rows (with_parks park (with_outs outs.boxes s))
 
 -- the side with these VPEs, jobs, waiting calls and outboxes
 abbrev pub ending : VpeTable → JobStore → List (Option Parked) → OutboxList → Side → Side
 ending vpes jobs park outs s =
     with_vpes vpes.rows (with_jobs jobs.jobs jobs.next (with_parks park (with_outs outs.boxes s)))
 
--- the side with these capabilities, VPEs, waiting calls and outboxes
-abbrev pub with_caps_vpes_parks_outs :
-    CapStore → VpeTable → List (Option Parked) → OutboxList → Side → Side
-with_caps_vpes_parks_outs caps vpes park outs s =
-    with_caps caps.caps (with_vpes_parks_outs vpes park outs s)
-
 -- the side with these capabilities, VPEs, jobs, waiting calls and outboxes
 abbrev pub sweeping : CapStore → VpeTable → JobStore → List (Option Parked) → OutboxList → Side → Side
 sweeping caps vpes jobs park outs s = with_caps caps.caps (ending vpes jobs park outs s)
-
--- a kernel owns the key
-abbrev pub HasOwner : Setup → KeyName → Type 0
-HasOwner T k = owner_of T k < T.kernels
 
 -- a capability that kernel i can sweep: it belongs to a VPE of the kernel, and a kernel owns its
 -- parent

@@ -7,19 +7,17 @@ ghost use Rattle.sem_msg.specs.declared.message.Target.{Target};
 ghost use Rattle.sem_msg.specs.declared.state.Ask.TheVariants.{Obtain as ObtainAsk};
 ghost use Rattle.sem_msg.specs.declared.state.Ask.TheVariants.{Delegate as DelegateAsk};
 ghost use Rattle.sem_msg.specs.Codes.{code_number};
-ghost use Rattle.sem_msg.specs.Lookups.{kernel_of as kernel_of_lem, owner_of as owner_of_lem};
+ghost use Rattle.sem_msg.specs.Lookups.{owner_of as owner_of_lem};
 ghost use Rattle.sem_msg.specs.Lookups.{place_owner as place_owner_lem};
 ghost use Rattle.sem_msg.specs.Outboxes.{HasBoxes};
 ghost use Rattle.sem_msg.specs.ParkedStates.{parked_as, state_of};
 ghost use Rattle.sem_msg.specs.declared.state.Parked.TheVariants.{Ready};
 ghost use Rattle.sem_msg.specs.VpeRows.{row};
 ghost use Rattle.sem_vpe.specs.VpeTable.{AreOurs, IsOurs};
-ghost use Rattle.sem_machine.specs.Asks.{call_refused};
 ghost use Rattle.sem_machine.specs.Ends.{ask_ended};
 ghost use Rattle.sem_machine.specs.Sides.{Side};
-ghost use Rattle.sem_machine.specs.Stores.{with_outs, with_parks, with_vpes};
+ghost use Rattle.sem_machine.specs.Stores.{with_outs, with_parks, with_vpes, with_vpes_parks_outs};
 ghost use Rattle.sem_sweep.specs.Sweeping.{CanOwe, HasAsker, obtain_ended, unasked};
-ghost use Rattle.sem_sweep.specs.Sweeping.{with_vpes_parks_outs};
 
 use crate::messages::{obtain_refusal, offer_refusal, tell, tell_owner};
 use sem_key::{Key, Place};
@@ -43,9 +41,9 @@ pub fn answer_asks(
     requires boxes { HasBoxes setup.now outs.old }
     requires spare { length (row vpes.old.rows vpe).asks ≤ outs.old.spare }
     ensures row { (s : Side) →
-        with_vpes_parks_outs vpes.new park.new outs.new s
+        with_vpes_parks_outs vpes.new.rows park.new outs.new.boxes s
         ≡ in_turn (ask_ended setup.now kernel) (row vpes.old.rows vpe).asks
-        (unasked vpe (with_vpes_parks_outs vpes.old park.old outs.old s)) }
+        (unasked vpe (with_vpes_parks_outs vpes.old.rows park.old outs.old.boxes s)) }
     ensures owes { CanOwe setup.now (state_of park.new vpe) }
     ensures ours { vpes.new.ours ≡ vpes.old.ours }
     ensures boxes { HasBoxes setup.now outs.new }
@@ -71,8 +69,9 @@ fn end_ask(
     requires boxes { HasBoxes setup.now outs.old }
     requires spare { 0 < outs.old.spare }
     ensures row { (s : Side) →
-        with_vpes_parks_outs vpes.new park.new outs.new s
-        ≡ ask_ended setup.now kernel ask.now (with_vpes_parks_outs vpes.old park.old outs.old s) }
+        with_vpes_parks_outs vpes.new.rows park.new outs.new.boxes s
+        ≡ ask_ended setup.now kernel ask.now
+        (with_vpes_parks_outs vpes.old.rows park.old outs.old.boxes s) }
     ensures ours { vpes.new.ours ≡ vpes.old.ours }
     ensures boxes { HasBoxes setup.now outs.new }
     ensures spare { outs.old.spare ≤ outs.new.spare + 1 }
@@ -97,9 +96,9 @@ fn end_obtain(
     requires boxes { HasBoxes setup.now outs.old }
     requires spare { 0 < outs.old.spare }
     ensures row { (target : Target) (s : Side) →
-        with_vpes_parks_outs vpes.new park.new outs.new s
+        with_vpes_parks_outs vpes.new.rows park.new outs.new.boxes s
         ≡ ask_ended setup.now kernel (ObtainAsk place target)
-        (with_vpes_parks_outs vpes.old park.old outs.old s) }
+        (with_vpes_parks_outs vpes.old.rows park.old outs.old.boxes s) }
     ensures ours { vpes.new.ours ≡ vpes.old.ours }
     ensures boxes { HasBoxes setup.now outs.new }
     ensures spare { outs.old.spare ≤ outs.new.spare + 1 }

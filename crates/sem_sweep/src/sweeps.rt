@@ -12,11 +12,11 @@ ghost use Rattle.sem_msg.specs.Outboxes.{HasBoxes};
 ghost use Rattle.sem_msg.specs.Setup.{Setup as SetupOf};
 ghost use Rattle.sem_vpe.specs.VpeTable.{AreOurs, IsOurs};
 ghost use Rattle.sem_machine.specs.Sides.{Side, no_side};
-ghost use Rattle.sem_machine.specs.Stores.{with_caps, with_jobs, with_outs, with_vpes};
-ghost use Rattle.sem_machine.specs.Revokes.{all_woken, closed_here, finish, left_parent};
-ghost use Rattle.sem_machine.specs.Revokes.{parent_left, spared, swept, up_told};
-ghost use Rattle.sem_sweep.specs.Sweeping.{CanSweepCap, HasOwner, IsUpOf};
-ghost use Rattle.sem_sweep.specs.Sweeping.{with_caps_vpes_parks_outs};
+ghost use Rattle.sem_machine.specs.Stores.{with_caps, with_caps_vpes_parks_outs, with_jobs};
+ghost use Rattle.sem_machine.specs.Stores.{with_outs, with_vpes};
+ghost use Rattle.sem_machine.specs.Revokes.{HasOwner, all_woken, closed_here, finish, left_parent};
+ghost use Rattle.sem_machine.specs.Revokes.{parent_left, spared, up_told};
+ghost use Rattle.sem_sweep.specs.Sweeping.{CanSweepCap, IsUpOf};
 ghost use Rattle.sem_sweep.specs.Sweeping.{is_remote as is_remote_lem, marked_removed};
 ghost use Rattle.sem_sweep.specs.Sweeping.{parent_messages, sweeping, up_messages};
 
@@ -96,9 +96,9 @@ fn close(
     requires spare { parent_messages finished.now.up ≤ outs.old.spare }
     requires space { length caps.old.caps ≤ vec_capacity gone.old }
     ensures row { (s : Side) →
-        with_caps_vpes_parks_outs caps.new vpes.new park.new outs.new s
+        with_caps_vpes_parks_outs caps.new.caps vpes.new.rows park.new outs.new.boxes s
         ≡ closed_here setup.now kernel finished.now
-        (with_caps_vpes_parks_outs caps.old vpes.old park.old outs.old s) }
+        (with_caps_vpes_parks_outs caps.old.caps vpes.old.rows park.old outs.old.boxes s) }
     ensures caps { All (CanSweepCap setup.now kernel) caps.new.caps }
     ensures count { length caps.new.caps ≤ length caps.old.caps }
     ensures ours { vpes.new.ours ≡ vpes.old.ours }

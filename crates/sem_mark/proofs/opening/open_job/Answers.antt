@@ -10,9 +10,9 @@ use Rattle.sem_msg.specs.EndpointRows.{unbind_all as rows_unbound}
 use Rattle.sem_caps.specs.CapStore.{CapStore}
 use Rattle.sem_dtu.specs.EndpointTable.{EndpointTable}
 use Rattle.sem_machine.specs.Sides.{Side, mark_all, unbind_all, job_opened}
-use Rattle.sem_machine.specs.Revokes.{request_or_adopt, opened}
+use Rattle.sem_machine.specs.Revokes.{HasOwner, opened, request_or_adopt}
 use Rattle.sem_machine.specs.Stores.{with_endpoints}
-use Rattle.sem_mark.specs.Marking.{beginning, HasOwner}
+use Rattle.sem_mark.specs.Marking.{beginning}
 use Rattle.sem_mark.proofs.Opened.{children-owned}
 use Rattle.sem_mark.proofs.opening.open_job.Goals as goal
 

@@ -3,8 +3,7 @@ use Rattle.sem_key.specs.KeyName.{KeyName}
 use Rattle.sem_msg.specs.Lookups.{is_declared}
 use Rattle.sem_machine.specs.Sides.{no_side}
 use Rattle.sem_machine.specs.Calls.{ask_made, open_tests}
-use Rattle.sem_machine.specs.Stores.{with_vpes}
-use Rattle.sem_obtain.specs.Asking.{with_vpes_parks_outs}
+use Rattle.sem_machine.specs.Stores.{with_vpes, with_vpes_parks_outs}
 use Rattle.sem_machine.proofs.FirstCodes.{row-refused}
 use Rattle.sem_obtain.proofs.Refusing.{open-done, open-free}
 use Rattle.sem_obtain.proofs.calls.open_call.Goals as goal
@@ -12,7 +11,7 @@ use Rattle.sem_obtain.proofs.calls.open_call.Goals as goal
 -- the first test that holds
 pub returns-in-Some-clause-row : goal.returns-in-Some-clause-row
 returns-in-Some-clause-row c s =
-    let side = with_vpes_parks_outs c.args.vpes.now c.args.park.now c.args.outs.now s in
+    let side = with_vpes_parks_outs c.args.vpes.now.rows c.args.park.now c.args.outs.now.boxes s in
     row-refused side (open_tests c.args.setup.now c.args.kernel side c.args.vpe c.args.dst c.args.name) _ c.in-Some.code c.answered.result c.in-Some.ensures
     c.answered.ensures
 
@@ -27,8 +26,8 @@ make_ask-requires-clause-free c = open-free c.args.setup.now c.args.kernel (with
 -- no test holds
 pub returns-clause-row : goal.returns-clause-row
 returns-clause-row c s =
-    let side = with_vpes_parks_outs c.args.vpes.now c.args.park.now c.args.outs.now s in
-    ap (λ o. record { side = with_vpes_parks_outs c.make_ask.new.vpes c.make_ask.new.park c.make_ask.new.outs s; outcome = o }) c.nothing.ensures
+    let side = with_vpes_parks_outs c.args.vpes.now.rows c.args.park.now c.args.outs.now.boxes s in
+    ap (λ o. record { side = with_vpes_parks_outs c.make_ask.new.vpes.rows c.make_ask.new.park c.make_ask.new.outs.boxes s; outcome = o }) c.nothing.ensures
     ∙ c.make_ask.ensures.row s
     ∙ ap (λ target. ask_made c.args.setup.now c.args.kernel c.args.vpe c.args.dst target side) c.session_with-target.ensures.target
     ∙ sym (open-done c.args.setup.now c.args.kernel side c.args.vpe c.args.dst c.args.name c.in-Some-service_key.service c.in_default.ensures

@@ -6,22 +6,22 @@ use Rattle.sem_key.specs.ObjectRanges.{object_kind}
 use Rattle.sem_machine.specs.Sides.{Side}
 use Rattle.sem_machine.specs.Steps.{plain, granting}
 use Rattle.sem_machine.specs.Upcalls.{given, given_kind}
-use Rattle.sem_machine.specs.Stores.{with_caps}
-use Rattle.sem_obtain.specs.Asking.{with_caps_vpes_parks_outs, IsGivable}
+use Rattle.sem_machine.specs.Stores.{with_caps, with_caps_vpes_parks_outs}
+use Rattle.sem_obtain.specs.Asking.{IsGivable}
 use Rattle.sem_obtain.proofs.Granting.{consent-refused, consent-given, given-kind, child-given}
 use Rattle.sem_obtain.proofs.upcalls.consent.Goals as goal
 
 -- the first test that holds
 pub returns-in-Some-clause-row : goal.returns-in-Some-clause-row
 returns-in-Some-clause-row c s =
-    let side = with_caps_vpes_parks_outs c.args.caps.now c.args.vpes.now c.args.park.now c.args.outs.now s in
+    let side = with_caps_vpes_parks_outs c.args.caps.now.caps c.args.vpes.now.rows c.args.park.now c.args.outs.now.boxes s in
     ap plain (c.refuse_ask.ensures.row c.args.target (with_caps c.args.caps.now.caps s))
     ∙ sym (consent-refused c.args.setup.now c.args.kernel c.args.vpe c.args.place c.args.target side c.in-Some.code c.in-Some.ensures.code)
 
 -- no test holds
 pub returns-clause-row : goal.returns-clause-row
 returns-clause-row c s =
-    let side = with_caps_vpes_parks_outs c.args.caps.now c.args.vpes.now c.args.park.now c.args.outs.now s in
+    let side = with_caps_vpes_parks_outs c.args.caps.now.caps c.args.vpes.now.rows c.args.park.now c.args.outs.now.boxes s in
     let p = capability_of c.in_ok-cap.cap.now in
     let givable : IsGivable c.args.caps.now p =
     subst (λ (o : Option Capability). IfSome o (IsGivable c.args.caps.now)) (sym c.in_ok-cap.ensures) c.requires.source in

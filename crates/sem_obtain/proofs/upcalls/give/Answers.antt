@@ -4,8 +4,7 @@ use Rattle.sem_msg.specs.Lookups.{kernel_of}
 use Rattle.sem_msg.specs.ParkedStates.{state_of}
 use Rattle.sem_caps.specs.CapStore.{CapStore}
 use Rattle.sem_machine.specs.Upcalls.{given_here}
-use Rattle.sem_machine.specs.Stores.{with_outs}
-use Rattle.sem_obtain.specs.Asking.{with_caps_vpes_parks_outs, installing}
+use Rattle.sem_machine.specs.Stores.{installing, with_caps_vpes_parks_outs, with_outs}
 use Rattle.sem_machine.proofs.Placed.{boxes-sent}
 use Rattle.sem_key.proofs.Finds.{absent-linked}
 use Rattle.sem_obtain.proofs.Granting.{child-here}
@@ -25,9 +24,9 @@ returns-then-kernel_of-kernel-clause-row c s =
     let t = with_outs c.args.outs.now.boxes s in
     c.give_here.ensures.row t
     ∙ ap (λ (store : CapStore). given_here c.args.key c.args.parent c.args.object (state_of c.args.park.now c.args.key.vpe)
-    (installing store c.args.vpes.now c.args.park.now t)) c.link.ensures
+    (installing store.caps c.args.vpes.now.rows c.args.park.now t)) c.link.ensures
     ∙ child-here c.args.setup.now c.args.kernel c.args.parent c.args.key c.args.object
-    (with_caps_vpes_parks_outs c.args.caps.now c.args.vpes.now c.args.park.now c.args.outs.now s) here
+    (with_caps_vpes_parks_outs c.args.caps.now.caps c.args.vpes.now.rows c.args.park.now c.args.outs.now.boxes s) here
 
 -- there are as many outboxes after a message was sent
 pub returns-else-kernel_of-kernel-clause-boxes : goal.returns-else-kernel_of-kernel-clause-boxes

@@ -4,8 +4,9 @@ use Rattle.sem_msg.specs.declared.state.Parked.{Parked}
 use Rattle.sem_msg.specs.Rows.{JobRow}
 use Rattle.sem_machine.specs.Sides.{Side}
 use Rattle.sem_machine.specs.Revokes.{swept, woken, all_woken, left_parent, parent_left, closed_here}
-use Rattle.sem_machine.specs.Stores.{with_caps, with_vpes, with_parks, with_outs}
-use Rattle.sem_sweep.specs.Sweeping.{with_vpes_parks_outs, with_caps_vpes_parks_outs, marked_removed}
+use Rattle.sem_machine.specs.Stores.{with_caps, with_caps_vpes_parks_outs, with_outs, with_parks, with_vpes}
+use Rattle.sem_machine.specs.Stores.{with_vpes_parks_outs}
+use Rattle.sem_sweep.specs.Sweeping.{marked_removed}
 use Rattle.sem_sweep.proofs.Swept.{left-owner, can-ours}
 use Rattle.sem_sweep.proofs.sweeps.close.Goals as goal
 
@@ -26,18 +27,18 @@ returns-clause-row c s =
     let outs = c.args.outs.now in
     let caps2 = c.remove_caps.new.caps in
     let vpes2 = c.remove_caps.new.vpes in
-    let s0 : Side = with_caps_vpes_parks_outs c.args.caps.now c.args.vpes.now c.args.park.now outs s in
+    let s0 : Side = with_caps_vpes_parks_outs c.args.caps.now.caps c.args.vpes.now.rows c.args.park.now outs.boxes s in
     let id : c.finished.inside.id ≡ x.id = ap (λ (y : JobRow). y.id) c.finished.view_is in
     let ws : c.finished.inside.slots ≡ x.waiters = ap (λ (y : JobRow). y.waiters) c.finished.view_is in
-    let removed : with_caps_vpes_parks_outs caps2 vpes2 c.args.park.now outs s ≡ swept x s0 =
+    let removed : with_caps_vpes_parks_outs caps2.caps vpes2.rows c.args.park.now outs.boxes s ≡ swept x s0 =
     c.remove_caps.ensures.row (with_parks c.args.park.now (with_outs outs.boxes s))
-    ∙ ap (λ j. marked_removed j (with_caps_vpes_parks_outs c.spare_root.new.caps c.args.vpes.now c.args.park.now outs s)) id
-    ∙ ap (λ (cs : List Capability). marked_removed x.id (with_caps cs (with_vpes_parks_outs c.args.vpes.now c.args.park.now outs s))) c.spare_root.ensures.caps in
+    ∙ ap (λ j. marked_removed j (with_caps_vpes_parks_outs c.spare_root.new.caps.caps c.args.vpes.now.rows c.args.park.now outs.boxes s)) id
+    ∙ ap (λ (cs : List Capability). marked_removed x.id (with_caps cs (with_vpes_parks_outs c.args.vpes.now.rows c.args.park.now outs.boxes s))) c.spare_root.ensures.caps in
     let park : c.wake_all.new.park ≡ all_woken x.waiters c.args.park.now = c.wake_all.ensures ∙ ap (λ vs. all_woken vs c.args.park.now) ws in
-    let woken1 : with_caps_vpes_parks_outs caps2 vpes2 c.wake_all.new.park outs s ≡ woken x.waiters (swept x s0) =
-    ap (λ (ps : List (Option Parked)). with_caps_vpes_parks_outs caps2 vpes2 ps outs s) park ∙ ap (woken x.waiters) removed in
+    let woken1 : with_caps_vpes_parks_outs caps2.caps vpes2.rows c.wake_all.new.park outs.boxes s ≡ woken x.waiters (swept x s0) =
+    ap (λ (ps : List (Option Parked)). with_caps_vpes_parks_outs caps2.caps vpes2.rows ps outs.boxes s) park ∙ ap (woken x.waiters) removed in
     c.leave_parent.ensures.row (with_vpes vpes2.rows (with_parks c.wake_all.new.park s))
-    ∙ ap (λ o. parent_left T i x o (with_caps_vpes_parks_outs caps2 vpes2 c.wake_all.new.park outs s)) c.parent_to_leave-parent.ensures
+    ∙ ap (λ o. parent_left T i x o (with_caps_vpes_parks_outs caps2.caps vpes2.rows c.wake_all.new.park outs.boxes s)) c.parent_to_leave-parent.ensures
     ∙ ap (parent_left T i x (left_parent s0 x)) woken1
 
 pub returns-clause-caps : goal.returns-clause-caps
