@@ -1,10 +1,10 @@
 ghost use Rattle.std.specs.Prelude.{◌≡◌, ◌<◌, IfSome};
-ghost use Rattle.sem_msg.specs.declared.limits.TheConstants.{ENDPOINTS as ENDPOINTS_LEM};
-ghost use Rattle.sem_access.specs.Accesses.{base_of as base_of_lem};
-ghost use Rattle.sem_access.specs.Accesses.{is_answered_at_once as is_answered_at_once_lem};
-ghost use Rattle.sem_access.specs.Transfers.{transfer_through as transfer_through_lem};
-ghost use Rattle.sem_access.specs.Transfers.{call_transfer as call_transfer_lem};
-ghost use Rattle.sem_access.specs.Transfers.{transfer_of as transfer_of_lem, transferred};
+ghost use Rattle.sem_msg.specs.declared.limits.TheConstants.{ENDPOINTS as ENDPOINTS_SPEC};
+ghost use Rattle.sem_access.specs.Accesses.{base_of as base_of_spec};
+ghost use Rattle.sem_access.specs.Accesses.{is_answered_at_once as is_answered_at_once_spec};
+ghost use Rattle.sem_access.specs.Transfers.{transfer_through as transfer_through_spec};
+ghost use Rattle.sem_access.specs.Transfers.{call_transfer as call_transfer_spec};
+ghost use Rattle.sem_access.specs.Transfers.{transfer_of as transfer_of_spec, transferred};
 
 use crate::Access;
 use sem_key::{Key, Object};
@@ -43,8 +43,8 @@ impl Transfer {
 
 /// The read or the write that the entry tells, if its call succeeded at once.
 pub fn transfer_of(entry: &Entry) -> Option<Transfer>
-    ensures transfer { result ≡ transfer_of_lem entry.now }
-    ensures ep { IfSome result (λ t. t.ep < ENDPOINTS_LEM) }
+    ensures transfer { result ≡ transfer_of_spec entry.now }
+    ensures ep { IfSome result (λ t. t.ep < ENDPOINTS_SPEC) }
 {
     if !is_answered_at_once(entry) {
         return None;
@@ -57,7 +57,7 @@ pub fn transfer_of(entry: &Entry) -> Option<Transfer>
 
 // Whether the entry tells that its call succeeded.
 fn is_answered_at_once(entry: &Entry) -> bool
-    ensures { result ≡ is_answered_at_once_lem entry.now }
+    ensures { result ≡ is_answered_at_once_spec entry.now }
 {
     match entry.reply {
         Some(reply) => reply.code == 0,
@@ -67,8 +67,8 @@ fn is_answered_at_once(entry: &Entry) -> bool
 
 // What the call of the VPE reads or writes.
 fn call_transfer(vpe: u16, call: Call) -> Option<Transfer>
-    ensures transfer { result ≡ call_transfer_lem vpe call }
-    ensures ep { IfSome result (λ t. t.ep < ENDPOINTS_LEM) }
+    ensures transfer { result ≡ call_transfer_spec vpe call }
+    ensures ep { IfSome result (λ t. t.ep < ENDPOINTS_SPEC) }
 {
     match call {
         Call::Read { ep, off, len } => transfer_through(vpe, ep, false, off, len),
@@ -79,8 +79,8 @@ fn call_transfer(vpe: u16, call: Call) -> Option<Transfer>
 
 // The transfer through the endpoint, if there is one.
 fn transfer_through(vpe: u16, ep: u8, write: bool, off: u32, len: u32) -> Option<Transfer>
-    ensures transfer { result ≡ transfer_through_lem vpe ep write off len }
-    ensures ep { IfSome result (λ t. t.ep < ENDPOINTS_LEM) }
+    ensures transfer { result ≡ transfer_through_spec vpe ep write off len }
+    ensures ep { IfSome result (λ t. t.ep < ENDPOINTS_SPEC) }
 {
     if usize::from(ep) < ENDPOINTS {
         Some(Transfer {
@@ -97,7 +97,7 @@ fn transfer_through(vpe: u16, ep: u8, write: bool, off: u32, len: u32) -> Option
 
 // The first address of a memory.
 fn base_of(object: &Object) -> u32
-    ensures { result ≡ base_of_lem object.now }
+    ensures { result ≡ base_of_spec object.now }
 {
     match object {
         Object::Mem { base, .. } => *base,

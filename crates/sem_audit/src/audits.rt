@@ -1,6 +1,6 @@
 ghost use Rattle.std.specs.Prelude.{◌≡◌, length, map, IfOk};
 ghost use Rattle.sem_msg.specs.Audits.{held_pairs};
-ghost use Rattle.sem_machine.specs.Journals.{made as made_lem, cut};
+ghost use Rattle.sem_machine.specs.Journals.{made as made_spec, cut};
 ghost use Rattle.sem_audit.specs.HeldKeys.{held};
 
 use crate::holds::held_list;
@@ -18,7 +18,7 @@ pub fn audit_of(
     kernels: &[Kernel],
 ) -> Result<Audit, OutOfMemory>
     ensures made { IfOk result (λ audit.
-        audit.made ≡ length (made_lem setup.now journal.now.entries)) }
+        audit.made ≡ length (made_spec setup.now journal.now.entries)) }
     ensures cut { IfOk result (λ audit. audit.cut ≡ length (cut setup.now journal.now.entries)) }
     ensures held { IfOk result (λ audit.
         held_pairs audit.held ≡ held (map (λ k. k.side) kernels.now)) }

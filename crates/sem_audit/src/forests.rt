@@ -5,7 +5,7 @@ ghost use Rattle.sem_key.specs.KeyName.{IsValidKey};
 ghost use Rattle.sem_key.specs.Region.{has_key};
 ghost use Rattle.sem_machine.specs.Journals.{forest, grants};
 ghost use Rattle.sem_machine.specs.Schedules.{IsSchedule};
-ghost use Rattle.sem_grants.specs.Words.{HasWords, has_word as has_word_lem};
+ghost use Rattle.sem_grants.specs.Words.{HasWords, has_word as has_word_spec};
 ghost use Rattle.sem_audit.specs.Losing.{lost};
 
 use indexmap::IndexSet;
@@ -29,7 +29,7 @@ pub fn forest_keys(alloc: Global, setup: &Setup, journal: &Journal) -> Result<Ve
 // The keys whose words are not there.
 fn keys_without(alloc: Global, keys: &[Key], words: &IndexSet<u64>) -> Result<Vec<Key>, OutOfMemory>
     ensures { IfOk result (λ left.
-        left.items ≡ filter (λ k. not (has_word_lem words.now k)) keys.now) }
+        left.items ≡ filter (λ k. not (has_word_spec words.now k)) keys.now) }
 {
     let mut left = Vec::new(alloc);
     for key in keys {
@@ -65,7 +65,7 @@ fn cut_words(alloc: Global, cut: &Keys) -> Result<IndexSet<u64>, OutOfMemory>
 // Adds the word of the child that the entry grants, if the parent's word is there.
 fn add_lost(words: &mut IndexSet<u64>, entry: &Entry) -> Result<(), OutOfMemory>
     ensures added { OnOk result (HasWords words.new
-        (lost (has_word_lem words.old) (option_to_list entry.now.grant))) }
+        (lost (has_word_spec words.old) (option_to_list entry.now.grant))) }
     ensures valid { IfSome entry.now.grant (λ grant. IsValidKey grant.0) }
 {
     if let Some((parent, child)) = entry.grant {

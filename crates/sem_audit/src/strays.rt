@@ -2,7 +2,7 @@
 ghost use Rattle.std.specs.Prelude.{◌≡◌, length, map, IfOk};
 ghost use Rattle.sem_msg.specs.Journal.{replies};
 ghost use Rattle.sem_machine.specs.Schedules.{IsSchedule};
-ghost use Rattle.sem_audit.specs.Straying.{held_keys as held_keys_lem, stray_count, stray_after};
+ghost use Rattle.sem_audit.specs.Straying.{held_keys as held_keys_spec, stray_count, stray_after};
 
 use crate::forests::forest_keys;
 use crate::holds::held_list;
@@ -54,7 +54,7 @@ pub fn stray_of(
 
 // The keys that the kernels hold.
 fn held_keys(alloc: Global, kernels: &[Kernel]) -> Result<Vec<Key>, OutOfMemory>
-    ensures { IfOk result (λ keys. keys.items ≡ held_keys_lem (map (λ k. k.side) kernels.now)) }
+    ensures { IfOk result (λ keys. keys.items ≡ held_keys_spec (map (λ k. k.side) kernels.now)) }
 {
     let held = held_list(alloc, kernels)?;
     let mut keys = Vec::new(alloc);

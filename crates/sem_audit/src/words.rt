@@ -2,7 +2,7 @@
 ghost use Rattle.std.specs.Prelude.{◌≡◌, ◌≤◌, length, IfOk};
 ghost use Rattle.sem_key.specs.Region.{has_key};
 ghost use Rattle.sem_grants.specs.Words.{HasWords};
-ghost use Rattle.sem_audit.specs.Straying.{missing as missing_lem};
+ghost use Rattle.sem_audit.specs.Straying.{missing as missing_spec};
 
 use indexmap::IndexSet;
 use sem_grants::{add_word, has_word};
@@ -21,7 +21,7 @@ fn words_of(alloc: Global, keys: &[Key]) -> Result<IndexSet<u64>, OutOfMemory>
 
 // How many of the keys are not among the others.
 pub fn missing(alloc: Global, keys: &[Key], others: &[Key]) -> Result<usize, OutOfMemory>
-    ensures missing { IfOk result (λ count. count ≡ missing_lem keys.now others.now) }
+    ensures missing { IfOk result (λ count. count ≡ missing_spec keys.now others.now) }
     ensures few { IfOk result (λ count. count ≤ length keys.now) }
 {
     let words = words_of(alloc, others)?;

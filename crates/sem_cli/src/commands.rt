@@ -1,8 +1,8 @@
 ghost use Rattle.std.specs.Prelude.{◌≡◌, [], ◌∷◌, map, option_map, string_bytes};
 ghost use Rattle.sem_cli.specs.declared.forms.Command.TheVariants.{Ask};
-ghost use Rattle.sem_cli.specs.Commands.{command_of, question_of, number_to as number_to_lem};
-ghost use Rattle.sem_cli.specs.Commands.{seed_of as seed_of_lem, load_of as load_of_lem};
-ghost use Rattle.sem_cli.specs.Commands.{key_of as key_of_lem};
+ghost use Rattle.sem_cli.specs.Commands.{command_of, question_of, number_to as number_to_spec};
+ghost use Rattle.sem_cli.specs.Commands.{seed_of as seed_of_spec, load_of as load_of_spec};
+ghost use Rattle.sem_cli.specs.Commands.{key_of as key_of_spec};
 
 use crate::forms::{Command, Load, Question};
 use sem_key::Key;
@@ -100,21 +100,21 @@ fn loaded(name: &str, seed: &str, vpes: &str, calls: &str) -> Option<Command>
 }
 
 fn key_of(word: &str) -> Option<Key>
-    ensures { result ≡ key_of_lem word.now }
+    ensures { result ≡ key_of_spec word.now }
 {
     read_key(word.as_bytes(), 2).ok()
 }
 
 // The seed, or the number of entries, of a word.
 fn seed_of(word: &str) -> Option<u64>
-    ensures { result ≡ seed_of_lem word.now }
+    ensures { result ≡ seed_of_spec word.now }
 {
     number(word.as_bytes(), u64::MAX).ok()
 }
 
 // The load of three words.
 fn load_of(seed: &str, vpes: &str, calls: &str) -> Option<Load>
-    ensures { result ≡ load_of_lem seed.now vpes.now calls.now }
+    ensures { result ≡ load_of_spec seed.now vpes.now calls.now }
 {
     let seed = seed_of(seed)?;
     let vpes = number_to(128, vpes)?;
@@ -128,7 +128,7 @@ fn load_of(seed: &str, vpes: &str, calls: &str) -> Option<Load>
 
 // The number of a word, if it is at most `most`.
 fn number_to(most: u32, word: &str) -> Option<u32>
-    ensures { result ≡ number_to_lem most word.now }
+    ensures { result ≡ number_to_spec most word.now }
 {
     let count = number(word.as_bytes(), u64::from(most)).ok()?;
     u32::try_from(count).ok()

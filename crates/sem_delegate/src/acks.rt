@@ -1,7 +1,7 @@
 ghost use Rattle.std.specs.Prelude.{◌≡◌, ℕ, ◌<◌, ◌≤◌, ◌+◌, None};
 ghost use Rattle.sem_key.specs.CapList.{cap_of};
 ghost use Rattle.sem_msg.specs.declared.message.Message.TheVariants.{Ack};
-ghost use Rattle.sem_msg.specs.Lookups.{kernel_of as kernel_of_lem, owner_of as owner_of_lem};
+ghost use Rattle.sem_msg.specs.Lookups.{kernel_of as kernel_of_spec, owner_of as owner_of_spec};
 ghost use Rattle.sem_msg.specs.Outboxes.{HasBoxes};
 ghost use Rattle.sem_vpe.specs.VpeTable.{AreOurs, IsOurs};
 ghost use Rattle.sem_machine.specs.Sides.{Side};
@@ -31,7 +31,7 @@ pub fn ack(
     outs: &mut Outboxes,
 )
     requires home { AreOurs setup.now kernel vpes.old }
-    requires vpe { kernel_of_lem setup.now key.vpe ≡ kernel }
+    requires vpe { kernel_of_spec setup.now key.vpe ≡ kernel }
     requires holds { CanHold setup.now caps.old key (pending_of pendings.old.pendings key) }
     requires boxes { HasBoxes setup.now outs.old }
     requires caps_spare { 0 < caps.old.spare }
@@ -69,7 +69,7 @@ fn hold(
 )
     requires ours { IsOurs vpes.old key.vpe }
     requires absent { cap_of caps.old.caps key ≡ None }
-    requires owner { owner_of_lem setup.now pending.now.parent < setup.now.kernels }
+    requires owner { owner_of_spec setup.now pending.now.parent < setup.now.kernels }
     requires boxes { HasBoxes setup.now outs.old }
     requires caps_spare { 0 < caps.old.spare }
     requires spare { 0 < outs.old.spare }

@@ -1,7 +1,7 @@
 ghost use Rattle.std.specs.Prelude.{◌≡◌, ◌≢◌, ℕ, ◌<◌, ◌≤◌, ◌+◌, true};
 ghost use Rattle.sem_msg.specs.declared.message.Message.TheVariants.{DelegateNo, DelegatePrepared};
 ghost use Rattle.sem_msg.specs.declared.message.Message.TheVariants.{DelegateReq};
-ghost use Rattle.sem_msg.specs.Lookups.{kernel_of as kernel_of_lem, owner_of as owner_of_lem};
+ghost use Rattle.sem_msg.specs.Lookups.{kernel_of as kernel_of_spec, owner_of as owner_of_spec};
 ghost use Rattle.sem_msg.specs.Outboxes.{HasBoxes};
 ghost use Rattle.sem_msg.specs.ParkedStates.{state_of};
 ghost use Rattle.sem_vpe.specs.VpeTable.{AreOurs};
@@ -31,9 +31,9 @@ pub fn delegate_request(
     outs: &mut Outboxes,
 )
     requires home { AreOurs setup.now kernel vpes.old }
-    requires vpe { kernel_of_lem setup.now vpe ≡ kernel }
-    requires other { kernel_of_lem setup.now parent.vpe ≢ kernel }
-    requires owner { owner_of_lem setup.now parent < setup.now.kernels }
+    requires vpe { kernel_of_spec setup.now vpe ≡ kernel }
+    requires other { kernel_of_spec setup.now parent.vpe ≢ kernel }
+    requires owner { owner_of_spec setup.now parent < setup.now.kernels }
     requires boxes { HasBoxes setup.now outs.old }
     requires spare { 0 < outs.old.spare }
     ensures row { (from : ℕ) (s : Side) →
@@ -71,8 +71,8 @@ pub fn delegate_prepared(
     outs: &mut Outboxes,
 )
     requires home { AreOurs setup.now kernel vpes.now }
-    requires vpe { kernel_of_lem setup.now parent.vpe ≡ kernel }
-    requires owner { owner_of_lem setup.now key < setup.now.kernels }
+    requires vpe { kernel_of_spec setup.now parent.vpe ≡ kernel }
+    requires owner { owner_of_spec setup.now key < setup.now.kernels }
     requires boxes { HasBoxes setup.now outs.old }
     requires spare { 0 < outs.old.spare }
     ensures row { (from : ℕ) (s : Side) →
@@ -100,7 +100,7 @@ pub fn delegate_refused(
     park: &mut Park,
 )
     requires home { AreOurs setup.now kernel vpes.now }
-    requires vpe { kernel_of_lem setup.now parent.vpe ≡ kernel }
+    requires vpe { kernel_of_spec setup.now parent.vpe ≡ kernel }
     requires waits { IsAwaited vpes.now park.old parent }
     ensures row { (from : ℕ) (s : Side) →
         with_vpes vpes.now.rows (with_parks park.new s)

@@ -1,7 +1,7 @@
 ghost use Rattle.std.specs.Prelude.{◌≡◌, ◌<◌, ◌≤◌, ◌+◌, true, IfSome};
 ghost use Rattle.sem_key.specs.declared.limits.TheConstants.{VPES};
 ghost use Rattle.sem_key.specs.Capability.{capability_of};
-ghost use Rattle.sem_msg.specs.Lookups.{is_declared, kernel_of as kernel_of_lem};
+ghost use Rattle.sem_msg.specs.Lookups.{is_declared, kernel_of as kernel_of_spec};
 ghost use Rattle.sem_msg.specs.Message.{IsDelegable};
 ghost use Rattle.sem_msg.specs.Outboxes.{HasBoxes};
 ghost use Rattle.sem_vpe.specs.VpeTable.{AreOurs};
@@ -34,7 +34,7 @@ pub fn delegate_call(
     outs: &mut Outboxes,
 ) -> Outcome
     requires home { AreOurs setup.now kernel vpes.old }
-    requires vpe { kernel_of_lem setup.now vpe ≡ kernel }
+    requires vpe { kernel_of_spec setup.now vpe ≡ kernel }
     requires declared { is_declared setup.now vpe ≡ true }
     requires valid { IfSome (own (owning caps.now.caps vpes.old.rows no_side) vpe src) IsOfKind }
     requires boxes { HasBoxes setup.now outs.old }

@@ -2,7 +2,7 @@ ghost use Rattle.std.specs.Prelude.{◌≡◌, ◌<◌, ◌≤◌, ◌+◌, ◌+
 ghost use Rattle.sem_key.specs.CapList.{cap_of};
 ghost use Rattle.sem_msg.specs.declared.entry.Consent.TheVariants.{Yes};
 ghost use Rattle.sem_msg.specs.declared.state.Ask.TheVariants.{Delegate as DelegateAsk};
-ghost use Rattle.sem_msg.specs.Lookups.{is_declared, kernel_of as kernel_of_lem};
+ghost use Rattle.sem_msg.specs.Lookups.{is_declared, kernel_of as kernel_of_spec};
 ghost use Rattle.sem_vpe.specs.VpeTable.{IsOurs};
 ghost use Rattle.sem_machine.specs.Sides.{Side, no_side};
 ghost use Rattle.sem_machine.specs.Steps.{asking, first_code};
@@ -32,7 +32,7 @@ pub fn decide_here(
     vpes: &mut Vpes,
     park: &mut Park,
 ) -> Outcome
-    requires here { kernel_of_lem setup.now parent.vpe ≡ kernel }
+    requires here { kernel_of_spec setup.now parent.vpe ≡ kernel }
     requires declared { is_declared setup.now vpe ≡ true }
     requires ours { IsOurs vpes.old vpe }
     requires free { IsNextFree setup.now caps.old vpes.old vpe }

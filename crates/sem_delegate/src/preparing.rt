@@ -1,7 +1,7 @@
 ghost use Rattle.std.specs.Prelude.{◌≡◌, ◌≢◌, ◌<◌, ◌≤◌, ◌+◌, true, None};
 ghost use Rattle.sem_msg.specs.declared.state.Ask.TheVariants.{Delegate as DelegateAsk};
-ghost use Rattle.sem_msg.specs.Lookups.{is_declared, kernel_of as kernel_of_lem};
-ghost use Rattle.sem_msg.specs.Lookups.{owner_of as owner_of_lem};
+ghost use Rattle.sem_msg.specs.Lookups.{is_declared, kernel_of as kernel_of_spec};
+ghost use Rattle.sem_msg.specs.Lookups.{owner_of as owner_of_spec};
 ghost use Rattle.sem_msg.specs.Outboxes.{HasBoxes};
 ghost use Rattle.sem_vpe.specs.VpeTable.{IsOurs};
 ghost use Rattle.sem_machine.specs.Sides.{Side, no_side};
@@ -30,10 +30,10 @@ pub fn decide_elsewhere(
     pendings: &mut Pendings,
     outs: &mut Outboxes,
 ) -> Outcome
-    requires other { kernel_of_lem setup.now parent.vpe ≢ kernel }
+    requires other { kernel_of_spec setup.now parent.vpe ≢ kernel }
     requires declared { is_declared setup.now vpe ≡ true }
     requires ours { IsOurs vpes.old vpe }
-    requires owner { owner_of_lem setup.now parent < setup.now.kernels }
+    requires owner { owner_of_spec setup.now parent < setup.now.kernels }
     requires boxes { HasBoxes setup.now outs.old }
     requires pendings_spare { 0 < pendings.old.spare }
     requires spare { 0 < outs.old.spare }
@@ -74,7 +74,7 @@ fn prepare(
     requires ours { IsOurs vpes.old vpe }
     requires free { first_code (destination_tests (with_vpes vpes.old.rows no_side) vpe sel)
         ≡ None }
-    requires owner { owner_of_lem setup.now parent < setup.now.kernels }
+    requires owner { owner_of_spec setup.now parent < setup.now.kernels }
     requires boxes { HasBoxes setup.now outs.old }
     requires pendings_spare { 0 < pendings.old.spare }
     requires spare { 0 < outs.old.spare }

@@ -1,7 +1,7 @@
 ghost use Rattle.std.specs.Prelude.{◌≡◌, ◌<◌, ◌≤◌, ◌+◌};
 ghost use Rattle.sem_key.specs.declared.limits.TheConstants.{VPES};
 ghost use Rattle.sem_key.specs.CapList.{cap_of};
-ghost use Rattle.sem_msg.specs.Lookups.{owner_of as owner_of_lem};
+ghost use Rattle.sem_msg.specs.Lookups.{owner_of as owner_of_spec};
 ghost use Rattle.sem_msg.specs.Outboxes.{HasBoxes};
 ghost use Rattle.sem_msg.specs.ParkedStates.{state_of};
 ghost use Rattle.sem_msg.specs.Setup.{Setup as SetupOf};
@@ -49,7 +49,7 @@ pub fn delegate_resume(
 // The child is granted, unless the parent is marked or not held; its kernel is told.
 fn grant(setup: &Setup, parent: Key, key: Key, caps: &mut Caps, outs: &mut Outboxes) -> Outcome
     requires room { HasRoomFor caps.old parent }
-    requires owner { owner_of_lem setup.now key < setup.now.kernels }
+    requires owner { owner_of_spec setup.now key < setup.now.kernels }
     requires boxes { HasBoxes setup.now outs.old }
     requires spare { 0 < outs.old.spare }
     ensures row { (s : Side) →

@@ -1,7 +1,7 @@
 ghost use Rattle.std.specs.Prelude.{◌≡◌, ◌<◌, ◌≤◌, ◌+◌, true};
 ghost use Rattle.sem_msg.specs.declared.state.Ask.TheVariants.{Delegate as DelegateAsk};
-ghost use Rattle.sem_msg.specs.Lookups.{is_declared, kernel_of as kernel_of_lem};
-ghost use Rattle.sem_msg.specs.Lookups.{owner_of as owner_of_lem};
+ghost use Rattle.sem_msg.specs.Lookups.{is_declared, kernel_of as kernel_of_spec};
+ghost use Rattle.sem_msg.specs.Lookups.{owner_of as owner_of_spec};
 ghost use Rattle.sem_msg.specs.Outboxes.{HasBoxes};
 ghost use Rattle.sem_vpe.specs.VpeTable.{AreOurs};
 ghost use Rattle.sem_machine.specs.Sides.{Side};
@@ -36,9 +36,9 @@ pub fn delegate_upcall(
     outs: &mut Outboxes,
 ) -> Outcome
     requires home { AreOurs setup.now kernel vpes.old }
-    requires vpe { kernel_of_lem setup.now vpe ≡ kernel }
+    requires vpe { kernel_of_spec setup.now vpe ≡ kernel }
     requires declared { is_declared setup.now vpe ≡ true }
-    requires owner { owner_of_lem setup.now parent < setup.now.kernels }
+    requires owner { owner_of_spec setup.now parent < setup.now.kernels }
     requires free { IsNextFree setup.now caps.old vpes.old vpe }
     requires child_room { HasRoomFor caps.old parent }
     requires boxes { HasBoxes setup.now outs.old }

@@ -5,8 +5,8 @@ ghost use Rattle.std.specs.Result.{result_err};
 ghost use Rattle.sem_key.specs.KeyList.{IsRising};
 ghost use Rattle.sem_key.specs.ObjectRanges.{IsValidObject};
 ghost use Rattle.sem_msg.specs.EndpointRows.{endpoint, with_endpoint, unbound_from};
-ghost use Rattle.sem_msg.specs.EndpointRows.{all_unbound_from, unbind_key as unbind_key_lem};
-ghost use Rattle.sem_msg.specs.EndpointRows.{unbind_all as unbind_all_lem};
+ghost use Rattle.sem_msg.specs.EndpointRows.{all_unbound_from, unbind_key as unbind_key_spec};
+ghost use Rattle.sem_msg.specs.EndpointRows.{unbind_all as unbind_all_spec};
 ghost use Rattle.sem_dtu.specs.EndpointTable.{IsOurs, IsEndpointTable};
 ghost use Rattle.sem_dtu.specs.Rows.{table};
 ghost use Rattle.sem_dtu.specs.OwnVpes.{new_table};
@@ -104,7 +104,7 @@ impl Dtus {
     /// The key's VPE must belong to this kernel.
     pub fn unbind_key(&mut self, key: Key)
         requires { IsOurs self.old key.vpe }
-        ensures { self.new ≡ record self.old { rows = unbind_key_lem key self.old.rows } }
+        ensures { self.new ≡ record self.old { rows = unbind_key_spec key self.old.rows } }
     {
         let row = &mut self.rows[usize::from(key.vpe)];
         unbind_each(&mut row.endpoints, key);
@@ -113,7 +113,7 @@ impl Dtus {
     /// Unbinds every endpoint that is bound to one of the keys. The keys must rise.
     pub fn unbind_all(&mut self, keys: &[Key])
         requires { IsRising keys.now }
-        ensures { self.new ≡ record self.old { rows = unbind_all_lem keys.now self.old.rows } }
+        ensures { self.new ≡ record self.old { rows = unbind_all_spec keys.now self.old.rows } }
     {
         unbind_rows(&mut self.rows, keys);
     }
@@ -154,7 +154,7 @@ fn unbind_rows(rows: &mut Vec<Row>, keys: &[Key])
     ensures { table rows.new.items
         ≡ record (table rows.old.items) {
           rows =
-              unbind_all_lem keys.now (table rows.old.items).rows;
+              unbind_all_spec keys.now (table rows.old.items).rows;
         } }
 {
     for row in rows.iter_mut() {

@@ -1,7 +1,7 @@
 ghost use Rattle.std.specs.Prelude.{◌≡◌, ◌↔◌, ◌<◌, ◌≤◌, [], ◌∷◌, ◌++◌, length, drop, nat_le};
 ghost use Rattle.std.specs.Prelude.{slice_get, Some, IsOk, IfOk, IfErr, IfSome, OnOk};
 ghost use Rattle.sem_msg.specs.Message.{Fits};
-ghost use Rattle.sem_wire.specs.MessageOfBytes.{message_of as message_of_lem, IsRecord};
+ghost use Rattle.sem_wire.specs.MessageOfBytes.{message_of as message_of_spec, IsRecord};
 ghost use Rattle.sem_fabric.specs.Links.{relined};
 
 use circular_buffer::HeapCircularBuffer;
@@ -35,7 +35,7 @@ impl Model for Link {
 // The message whose record the bytes are.
 fn message_of(bytes: &[u8; RECORD]) -> Option<Message>
     requires { IsRecord bytes.now }
-    ensures { result ≡ Some (message_of_lem bytes.now) }
+    ensures { result ≡ Some (message_of_spec bytes.now) }
 {
     match decode(bytes) {
         Ok(message) => Some(message),

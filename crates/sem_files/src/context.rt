@@ -1,26 +1,26 @@
 // What earlier lines make wrong with a line.
 ghost use Rattle.std.specs.Prelude.{◌≡◌, ◌≤◌, ◌&&◌, nat_le, nat_lt, true, false, if◌then◌else◌};
-ghost use Rattle.sem_msg.specs.declared.limits.TheConstants.{CALLS as CALLS_LEM};
-ghost use Rattle.sem_files.specs.Files.{is_file as is_file_lem, is_client as is_client_lem};
-ghost use Rattle.sem_files.specs.Files.{extents_of as extents_of_lem, file_of as file_of_lem};
-ghost use Rattle.sem_files.specs.Files.{open_file as open_file_lem, open_count};
-ghost use Rattle.sem_files.specs.Files.{is_opening as is_opening_lem};
-ghost use Rattle.sem_files.specs.FileContext.{is_open as is_open_lem, is_astray as is_astray_lem};
-ghost use Rattle.sem_files.specs.FileContext.{is_undeclared as is_undeclared_lem};
-ghost use Rattle.sem_files.specs.FileContext.{is_repeated as is_repeated_lem};
-ghost use Rattle.sem_files.specs.FileContext.{is_twice as is_twice_lem};
-ghost use Rattle.sem_files.specs.FileContext.{ends_behind as ends_behind_lem};
-ghost use Rattle.sem_files.specs.FileContext.{is_too_long as is_too_long_lem};
-ghost use Rattle.sem_files.specs.FileContext.{is_too_much as is_too_much_lem, call_number};
+ghost use Rattle.sem_msg.specs.declared.limits.TheConstants.{CALLS as CALLS_SPEC};
+ghost use Rattle.sem_files.specs.Files.{is_file as is_file_spec, is_client as is_client_spec};
+ghost use Rattle.sem_files.specs.Files.{extents_of as extents_of_spec, file_of as file_of_spec};
+ghost use Rattle.sem_files.specs.Files.{open_file as open_file_spec, open_count};
+ghost use Rattle.sem_files.specs.Files.{is_opening as is_opening_spec};
+ghost use Rattle.sem_files.specs.FileContext.{is_open as is_open_spec, is_astray as is_astray_spec};
+ghost use Rattle.sem_files.specs.FileContext.{is_undeclared as is_undeclared_spec};
+ghost use Rattle.sem_files.specs.FileContext.{is_repeated as is_repeated_spec};
+ghost use Rattle.sem_files.specs.FileContext.{is_twice as is_twice_spec};
+ghost use Rattle.sem_files.specs.FileContext.{ends_behind as ends_behind_spec};
+ghost use Rattle.sem_files.specs.FileContext.{is_too_long as is_too_long_spec};
+ghost use Rattle.sem_files.specs.FileContext.{is_too_much as is_too_much_spec, call_number};
 ghost use Rattle.sem_files.specs.FileContext.{with_command, context_fault};
-ghost use Rattle.sem_files.specs.FileContext.{astray_word as astray_word_lem};
-ghost use Rattle.sem_files.specs.FileContext.{undeclared_word as undeclared_word_lem};
-ghost use Rattle.sem_files.specs.FileContext.{repeated_word as repeated_word_lem};
-ghost use Rattle.sem_files.specs.FileContext.{twice_word as twice_word_lem};
-ghost use Rattle.sem_trace.specs.Forms.{at_word as at_word_lem};
+ghost use Rattle.sem_files.specs.FileContext.{astray_word as astray_word_spec};
+ghost use Rattle.sem_files.specs.FileContext.{undeclared_word as undeclared_word_spec};
+ghost use Rattle.sem_files.specs.FileContext.{repeated_word as repeated_word_spec};
+ghost use Rattle.sem_files.specs.FileContext.{twice_word as twice_word_spec};
+ghost use Rattle.sem_trace.specs.Forms.{at_word as at_word_spec};
 ghost use Rattle.sem_files.specs.FileReads.{IsSmall, IsClientNumber, IsActInRange, IsInRange};
-ghost use Rattle.sem_files.specs.OneMore.{declared_extents as declared_extents_lem};
-ghost use Rattle.sem_files.specs.OneMore.{new_calls as new_calls_lem};
+ghost use Rattle.sem_files.specs.OneMore.{declared_extents as declared_extents_spec};
+ghost use Rattle.sem_files.specs.OneMore.{new_calls as new_calls_spec};
 ghost use Rattle.sem_files.specs.Tells.{files_in, Tells};
 
 use crate::counts::{EXTENT, calls_of_act};
@@ -38,14 +38,14 @@ const MOST_CALLS: u32 = CALLS as u32;
 
 /// Whether the client opens a file. Takes no memory.
 pub(crate) fn is_opening(act: &FileAct) -> bool
-    ensures { result ≡ is_opening_lem act.now }
+    ensures { result ≡ is_opening_spec act.now }
 {
     matches!(act, FileAct::OpenFile { .. })
 }
 
 // Whether the range of the act ends after a file of that many extents.
 fn ends_behind(extents: u8, act: &FileAct) -> bool
-    ensures { result ≡ ends_behind_lem extents act.now }
+    ensures { result ≡ ends_behind_spec extents act.now }
 {
     match *act {
         FileAct::Read { off, len, .. } | FileAct::Write { off, len, .. } => {
@@ -57,7 +57,7 @@ fn ends_behind(extents: u8, act: &FileAct) -> bool
 
 // The fault of that cause at a word.
 fn at_word(word: u64, cause: Cause) -> LineFault
-    ensures { result ≡ at_word_lem word cause }
+    ensures { result ≡ at_word_spec word cause }
 {
     LineFault {
         cause,
@@ -67,7 +67,7 @@ fn at_word(word: u64, cause: Cause) -> LineFault
 
 // The word of an act that says what was said before.
 fn repeated_word(client: u16, act: &FileAct) -> u64
-    ensures { result ≡ repeated_word_lem client act.now }
+    ensures { result ≡ repeated_word_spec client act.now }
 {
     match *act {
         FileAct::Share { to, .. } => { if to == client { 4 } else { 5 } }
@@ -77,7 +77,7 @@ fn repeated_word(client: u16, act: &FileAct) -> u64
 
 // The word that says what an earlier line says.
 fn twice_word(line: &FileLine) -> u64
-    ensures { result ≡ twice_word_lem line.now }
+    ensures { result ≡ twice_word_spec line.now }
 {
     match line {
         FileLine::Kernels { .. } => 0,
@@ -98,28 +98,28 @@ impl Tables {
     // How many extents the file has, if it is declared.
     fn declared_extents(&self, file: u8) -> Option<u8>
         requires { Tells self.now }
-        ensures { result ≡ declared_extents_lem (files_in self.now) file }
+        ensures { result ≡ declared_extents_spec (files_in self.now) file }
     {
         self.extents.get(usize::from(file)).copied().flatten()
     }
 
     fn is_file(&self, file: u8) -> bool
         requires { Tells self.now }
-        ensures { result ≡ is_file_lem (files_in self.now) file }
+        ensures { result ≡ is_file_spec (files_in self.now) file }
     {
         self.declared_extents(file).is_some()
     }
 
     fn extents_of(&self, file: u8) -> u8
         requires { Tells self.now }
-        ensures { result ≡ extents_of_lem (files_in self.now) file }
+        ensures { result ≡ extents_of_spec (files_in self.now) file }
     {
         self.declared_extents(file).unwrap_or(0)
     }
 
     fn is_client(&self, client: u16) -> bool
         requires { Tells self.now }
-        ensures { result ≡ is_client_lem (files_in self.now) client }
+        ensures { result ≡ is_client_spec (files_in self.now) client }
     {
         self.declared
             .get(usize::from(client))
@@ -132,7 +132,7 @@ impl Tables {
         requires tells { Tells self.now }
         requires client { IsClientNumber client }
         requires handle { IsSmall handle }
-        ensures { result ≡ open_file_lem self.now.commands client handle }
+        ensures { result ≡ open_file_spec self.now.commands client handle }
     {
         self.handles[usize::from(client)].file(handle)
     }
@@ -141,7 +141,7 @@ impl Tables {
         requires tells { Tells self.now }
         requires client { IsClientNumber client }
         requires handle { IsSmall handle }
-        ensures { result ≡ is_open_lem (files_in self.now) client handle }
+        ensures { result ≡ is_open_spec (files_in self.now) client handle }
     {
         self.open_file(client, handle).is_some()
     }
@@ -151,7 +151,7 @@ impl Tables {
         requires tells { Tells self.now }
         requires client { IsClientNumber client }
         requires act { IsActInRange act.now }
-        ensures { result ≡ file_of_lem self.now.commands client act.now }
+        ensures { result ≡ file_of_spec self.now.commands client act.now }
     {
         match *act {
             FileAct::OpenFile { file, .. } => file,
@@ -167,7 +167,7 @@ impl Tables {
         requires tells { Tells self.now }
         requires client { IsClientNumber client }
         requires act { IsActInRange act.now }
-        ensures { result ≡ is_astray_lem (files_in self.now) client act.now }
+        ensures { result ≡ is_astray_spec (files_in self.now) client act.now }
     {
         match *act {
             FileAct::OpenFile { file, .. } => !self.is_file(file),
@@ -183,7 +183,7 @@ impl Tables {
     fn is_undeclared(&self, line: &FileLine) -> bool
         requires tells { Tells self.now }
         requires range { IsInRange line.now }
-        ensures { result ≡ is_undeclared_lem (files_in self.now) line.now }
+        ensures { result ≡ is_undeclared_spec (files_in self.now) line.now }
     {
         match line {
             FileLine::Do { command } => {
@@ -198,7 +198,7 @@ impl Tables {
         requires tells { Tells self.now }
         requires client { IsClientNumber client }
         requires act { IsActInRange act.now }
-        ensures { result ≡ is_repeated_lem (files_in self.now) client act.now }
+        ensures { result ≡ is_repeated_spec (files_in self.now) client act.now }
     {
         match *act {
             FileAct::OpenFile { handle, .. } => self.is_open(client, handle),
@@ -213,7 +213,7 @@ impl Tables {
     fn is_twice(&self, line: &FileLine) -> bool
         requires tells { Tells self.now }
         requires range { IsInRange line.now }
-        ensures { result ≡ is_twice_lem (files_in self.now) line.now }
+        ensures { result ≡ is_twice_spec (files_in self.now) line.now }
     {
         match line {
             FileLine::Kernels { .. } => true,
@@ -228,7 +228,7 @@ impl Tables {
     fn is_too_long(&self, line: &FileLine) -> bool
         requires tells { Tells self.now }
         requires range { IsInRange line.now }
-        ensures { result ≡ is_too_long_lem (files_in self.now) line.now }
+        ensures { result ≡ is_too_long_spec (files_in self.now) line.now }
     {
         match line {
             FileLine::Do { command } => {
@@ -244,7 +244,7 @@ impl Tables {
         requires tells { Tells self.now }
         requires client { IsClientNumber command.now.client }
         requires act { IsActInRange command.now.act }
-        ensures number { result ≡ new_calls_lem (files_in self.now) command.now }
+        ensures number { result ≡ new_calls_spec (files_in self.now) command.now }
         ensures few { result ≤ 511 }
     {
         let file = self.file_of(command.client, &command.act);
@@ -257,7 +257,7 @@ impl Tables {
         requires tells { Tells self.now }
         requires client { IsClientNumber command.now.client }
         ensures { result ≡
-            (is_opening_lem command.now.act
+            (is_opening_spec command.now.act
             && nat_le 1000 (open_count self.now.commands command.now.client)) }
     {
         let openings = self.openings[usize::from(command.client)];
@@ -269,9 +269,9 @@ impl Tables {
         requires tells { Tells self.now }
         requires client { IsClientNumber command.now.client }
         requires act { IsActInRange command.now.act }
-        requires declared { is_client_lem (files_in self.now) command.now.client ≡ true }
+        requires declared { is_client_spec (files_in self.now) command.now.client ≡ true }
         ensures { result ≡
-            nat_lt CALLS_LEM (call_number (with_command (files_in self.now) command.now)) }
+            nat_lt CALLS_SPEC (call_number (with_command (files_in self.now) command.now)) }
     {
         self.calls + self.new_calls(command) > MOST_CALLS
     }
@@ -280,8 +280,8 @@ impl Tables {
     fn is_too_much(&self, line: &FileLine) -> bool
         requires tells { Tells self.now }
         requires range { IsInRange line.now }
-        requires declared { is_undeclared_lem (files_in self.now) line.now ≡ false }
-        ensures { result ≡ is_too_much_lem (files_in self.now) line.now }
+        requires declared { is_undeclared_spec (files_in self.now) line.now ≡ false }
+        ensures { result ≡ is_too_much_spec (files_in self.now) line.now }
     {
         match line {
             FileLine::Do { command } => {
@@ -296,7 +296,7 @@ impl Tables {
         requires tells { Tells self.now }
         requires client { IsClientNumber client }
         requires act { IsActInRange act.now }
-        ensures { result ≡ astray_word_lem (files_in self.now) client act.now }
+        ensures { result ≡ astray_word_spec (files_in self.now) client act.now }
     {
         match *act {
             FileAct::OpenFile { .. } => 4,
@@ -309,7 +309,7 @@ impl Tables {
     fn undeclared_word(&self, line: &FileLine) -> u64
         requires tells { Tells self.now }
         requires range { IsInRange line.now }
-        ensures { result ≡ undeclared_word_lem (files_in self.now) line.now }
+        ensures { result ≡ undeclared_word_spec (files_in self.now) line.now }
     {
         match line {
             FileLine::Do { command } => {

@@ -1,8 +1,9 @@
 // How many calls an act adds.
 ghost use Rattle.std.specs.Prelude.{◌≡◌, ℕ, ◌≤◌, if◌then◌else◌, flat_map, length};
 ghost use Rattle.sem_msg.specs.declared.call.Call.{Call};
-ghost use Rattle.sem_files.specs.Compiled.{greater as greater_lem, less as less_lem, part_accessed};
-ghost use Rattle.sem_files.specs.Compiled.{below, calls_of_act as calls_of_act_lem};
+ghost use Rattle.sem_files.specs.Compiled.{greater as greater_spec, less as less_spec};
+ghost use Rattle.sem_files.specs.Compiled.{part_accessed};
+ghost use Rattle.sem_files.specs.Compiled.{below, calls_of_act as calls_of_act_spec};
 ghost use Rattle.sem_files.specs.OneMore.{touches};
 ghost use Rattle.sem_files.specs.FileReads.{IsActInRange};
 
@@ -12,13 +13,13 @@ use crate::files::FileAct;
 pub const EXTENT: u32 = 4096;
 
 fn greater(a: u32, b: u32) -> u32
-    ensures { result ≡ greater_lem a b }
+    ensures { result ≡ greater_spec a b }
 {
     if a < b { b } else { a }
 }
 
 fn less(a: u32, b: u32) -> u32
-    ensures { result ≡ less_lem a b }
+    ensures { result ≡ less_spec a b }
 {
     if a < b { a } else { b }
 }
@@ -56,7 +57,7 @@ fn accesses(extents: u8, off: u32, len: u32) -> u32
 /// How many calls the act adds, on a file of that many extents.
 pub(crate) fn calls_of_act(extents: u8, act: &FileAct) -> u32
     requires { IsActInRange act.now }
-    ensures number { result ≡ length (calls_of_act_lem extents act.now) }
+    ensures number { result ≡ length (calls_of_act_spec extents act.now) }
     ensures few { result ≤ 510 }
 {
     match *act {

@@ -3,7 +3,7 @@ ghost use Rattle.std.specs.Prelude.{◌≡◌, ℕ, List, [], ◌∷◌, ◌++�
 ghost use Rattle.std.specs.Prelude.{slice_index_or, OnOk};
 ghost use Rattle.sem_files.specs.declared.files.Command.{Command as CommandData};
 ghost use Rattle.sem_files.specs.declared.lines.FileLine.TheVariants.{File, Client, Do};
-ghost use Rattle.sem_files.specs.Files.{is_opening as is_opening_lem};
+ghost use Rattle.sem_files.specs.Files.{is_opening as is_opening_spec};
 ghost use Rattle.sem_files.specs.FileContext.{with_command, context_fault};
 ghost use Rattle.sem_files.specs.FileReads.{IsClientNumber, IsActInRange, IsInRange};
 ghost use Rattle.sem_files.specs.OneMore.{with_file, with_client, with_line};
@@ -30,7 +30,7 @@ fn begin(begun: &mut [bool; CLIENTS], command: &Command)
 // Counts an opening of a file by the client.
 fn count_opening(openings: &mut [u32; CLIENTS], command: &Command)
     requires client { IsClientNumber command.now.client }
-    requires few { (is_opening_lem command.now.act
+    requires few { (is_opening_spec command.now.act
         && nat_le 1000 (slice_index_or openings.old command.now.client 0))
         ≡ false }
     ensures { (commands : List CommandData) → CountsOpenings commands openings.old →

@@ -1,7 +1,8 @@
 // The calls of the acts of a client.
 ghost use Rattle.std.specs.Prelude.{◌≡◌, ◌<◌, ◌≤◌, ◌+◌, ◌++◌, OnOk};
 ghost use Rattle.sem_files.specs.declared.files.FileAct.TheVariants.{OpenFile, Share, Close};
-ghost use Rattle.sem_files.specs.Compiled.{part_begin as part_begin_lem, part_end as part_end_lem};
+ghost use Rattle.sem_files.specs.Compiled.{part_begin as part_begin_spec};
+ghost use Rattle.sem_files.specs.Compiled.{part_end as part_end_spec};
 ghost use Rattle.sem_files.specs.Compiled.{part_accessed, calls_of_act};
 ghost use Rattle.sem_fs.specs.Acts.{access_call, parts_accessed, IsPlainAct};
 
@@ -44,7 +45,7 @@ fn access(way: Way, off: u32, len: u32) -> Call
 // Where the part of a range in an extent begins.
 fn part_begin(off: u32, extent: u8) -> u32
     requires extent { extent < 4 }
-    ensures { result ≡ part_begin_lem off extent }
+    ensures { result ≡ part_begin_spec off extent }
 {
     off.max(EXTENT * u32::from(extent))
 }
@@ -54,7 +55,7 @@ fn part_end(off: u32, len: u32, extent: u8) -> u32
     requires off { off ≤ 16383 }
     requires len { len ≤ 16384 }
     requires extent { extent < 4 }
-    ensures { result ≡ part_end_lem off len extent }
+    ensures { result ≡ part_end_spec off len extent }
 {
     (off + len).min(EXTENT * (u32::from(extent) + 1))
 }

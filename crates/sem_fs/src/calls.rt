@@ -1,8 +1,8 @@
 // The calls of a client, command by command.
 ghost use Rattle.std.specs.Prelude.{◌≡◌, [], ◌++◌, IfOk, OnOk};
-ghost use Rattle.sem_files.specs.Files.{extents_of as extents_of_lem};
+ghost use Rattle.sem_files.specs.Files.{extents_of as extents_of_spec};
 ghost use Rattle.sem_files.specs.Compiled.{calls_of_act, calls_from};
-ghost use Rattle.sem_files.specs.Compiled.{client_calls as client_calls_lem};
+ghost use Rattle.sem_files.specs.Compiled.{client_calls as client_calls_spec};
 ghost use Rattle.sem_fs.specs.Acts.{IsPlainAct};
 ghost use Rattle.sem_fs.specs.Handling.{file_in};
 
@@ -35,7 +35,7 @@ fn push_command(
 ) -> Result<(), OutOfMemory>
     requires { IsPlainAct act }
     ensures { OnOk result (calls.new
-        ≡ calls.old ++ calls_of_act (extents_of_lem files.now (file_in handles.now act)) act) }
+        ≡ calls.old ++ calls_of_act (extents_of_spec files.now (file_in handles.now act)) act) }
 {
     let file = file_of(handles, act);
     let extents = extents_of(files, file);
@@ -60,7 +60,7 @@ fn push_calls(calls: &mut Calls, files: &Files, client: u16) -> Result<(), OutOf
 
 // The calls of a client, which opens a session first.
 pub fn client_calls(alloc: Global, files: &Files, client: u16) -> Result<Calls, OutOfMemory>
-    ensures { IfOk result (λ calls. calls ≡ client_calls_lem files.now client) }
+    ensures { IfOk result (λ calls. calls ≡ client_calls_spec files.now client) }
 {
     let mut calls = Calls::new(alloc);
     if !has_commands(files.commands.as_slice(), client) {

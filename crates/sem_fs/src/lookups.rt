@@ -1,7 +1,7 @@
 // Which files and clients are declared.
 ghost use Rattle.std.specs.Prelude.{◌≡◌, ◌≤◌, ◌==◌};
 ghost use Rattle.std.specs.List.{list_any};
-ghost use Rattle.sem_files.specs.Files.{is_client, extents_of as extents_of_lem};
+ghost use Rattle.sem_files.specs.Files.{is_client, extents_of as extents_of_spec};
 ghost use Rattle.sem_fs.specs.Extents.{extents_among};
 
 use sem_files::{Command, FileDecl, Files};
@@ -20,7 +20,7 @@ fn extents_in(files: &[FileDecl], file: u8) -> u8
 
 // How many extents a file has; 0 if it is not declared.
 pub fn extents_of(files: &Files, file: u8) -> u8
-    ensures extents { result ≡ extents_of_lem files.now file }
+    ensures extents { result ≡ extents_of_spec files.now file }
     ensures few { result ≤ 4 }
 {
     extents_in(files.files.as_slice(), file)

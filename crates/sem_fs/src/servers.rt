@@ -1,8 +1,8 @@
 // What the server holds and offers.
 ghost use Rattle.std.specs.Prelude.{◌≡◌, ◌<◌, ◌≤◌, ◌++◌, ◌∷◌, List, map, All, IfOk, OnOk};
 ghost use Rattle.sem_files.specs.Compiled.{below, extent_number, extents, service_root};
-ghost use Rattle.sem_files.specs.Compiled.{root_of_extent as root_of_extent_lem};
-ghost use Rattle.sem_files.specs.Compiled.{offer_of_extent as offer_of_extent_lem};
+ghost use Rattle.sem_files.specs.Compiled.{root_of_extent as root_of_extent_spec};
+ghost use Rattle.sem_files.specs.Compiled.{offer_of_extent as offer_of_extent_spec};
 ghost use Rattle.sem_fs.specs.Extents.{IsExtent, server_with};
 
 use crate::lookups::extents_of;
@@ -48,7 +48,7 @@ pub fn all_extents(alloc: Global, files: &Files) -> Result<Extents, OutOfMemory>
 // The root of the server for an extent.
 fn root_of_extent(extent: u8) -> Root
     requires { IsExtent extent }
-    ensures { result ≡ root_of_extent_lem extent }
+    ensures { result ≡ root_of_extent_spec extent }
 {
     Root {
         sel: 1 + extent,
@@ -62,7 +62,7 @@ fn root_of_extent(extent: u8) -> Root
 
 fn offer_of_extent(extent: u8) -> Offer
     requires { IsExtent extent }
-    ensures { result ≡ offer_of_extent_lem extent }
+    ensures { result ≡ offer_of_extent_spec extent }
 {
     Offer {
         name: 0,
@@ -74,7 +74,7 @@ fn offer_of_extent(extent: u8) -> Offer
 // The service, and the extents.
 fn roots(alloc: Global, extents: &[u8]) -> Result<Roots, OutOfMemory>
     requires { All IsExtent extents.now }
-    ensures { IfOk result (λ roots. roots ≡ service_root ∷ map root_of_extent_lem extents.now) }
+    ensures { IfOk result (λ roots. roots ≡ service_root ∷ map root_of_extent_spec extents.now) }
 {
     let mut roots = Roots::new(alloc);
     roots.push(Root {
@@ -89,7 +89,7 @@ fn roots(alloc: Global, extents: &[u8]) -> Result<Roots, OutOfMemory>
 
 pub fn offers(alloc: Global, extents: &[u8]) -> Result<Offers, OutOfMemory>
     requires { All IsExtent extents.now }
-    ensures { IfOk result (λ offers. offers ≡ map offer_of_extent_lem extents.now) }
+    ensures { IfOk result (λ offers. offers ≡ map offer_of_extent_spec extents.now) }
 {
     let mut offers = Offers::new(alloc);
     for extent in extents {

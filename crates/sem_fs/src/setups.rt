@@ -1,9 +1,10 @@
 ghost use Rattle.std.specs.Prelude.{◌≡◌, ◌++◌, ◌<◌, ◌==◌, ◌||◌, [], ◌∷◌, None, All, if◌then◌else◌};
 ghost use Rattle.std.specs.Prelude.{IfOk, OnOk};
-ghost use Rattle.sem_key.specs.declared.limits.TheConstants.{PES as PES_LEM};
+ghost use Rattle.sem_key.specs.declared.limits.TheConstants.{PES as PES_SPEC};
 ghost use Rattle.sem_key.specs.MembershipTable.{owner_at};
 ghost use Rattle.sem_files.specs.Files.{is_client};
-ghost use Rattle.sem_files.specs.Compiled.{SERVER as SERVER_LEM, client as client_lem, service_key};
+ghost use Rattle.sem_files.specs.Compiled.{SERVER as SERVER_SPEC, client as client_spec};
+ghost use Rattle.sem_files.specs.Compiled.{service_key};
 ghost use Rattle.sem_files.specs.Compiled.{compiled};
 ghost use Rattle.sem_fs.specs.Extents.{IsExtent, server_with};
 ghost use Rattle.sem_fs.specs.Clients.{clients_below};
@@ -19,7 +20,7 @@ use std::alloc::Global;
 
 // A client holds nothing at the start, and makes its calls.
 fn client(alloc: Global, files: &Files, client: u8) -> Result<VpeDecl, OutOfMemory>
-    ensures { IfOk result (λ vpe. vpe ≡ client_lem files.now client) }
+    ensures { IfOk result (λ vpe. vpe ≡ client_spec files.now client) }
 {
     let vpe = u16::from(client);
     Ok(VpeDecl {
@@ -38,7 +39,7 @@ fn push_client(
     number: u8,
 ) -> Result<(), OutOfMemory>
     ensures { OnOk result (vpes.new ≡ vpes.old
-        ++ (if is_client files.now number then client_lem files.now number ∷ [] else [])) }
+        ++ (if is_client files.now number then client_spec files.now number ∷ [] else [])) }
 {
     if !has_client(files, u16::from(number)) {
         return Ok(());
@@ -79,14 +80,14 @@ fn services(alloc: Global) -> Result<Services, OutOfMemory>
 
 // Whether a VPE is on the PE.
 fn is_used(files: &Files, pe: u8) -> bool
-    ensures { result ≡ ((pe == SERVER_LEM) || is_client files.now pe) }
+    ensures { result ≡ ((pe == SERVER_SPEC) || is_client files.now pe) }
 {
     pe == SERVER || has_client(files, u16::from(pe))
 }
 
 // Gives the PE to its kernel, if a VPE is on it.
 fn set_owner(owners: &mut Membership, files: &Files, pe: u8)
-    requires pe { pe < PES_LEM }
+    requires pe { pe < PES_SPEC }
     requires kernels { owners.old.kernels ≡ files.now.kernels }
     requires free { owner_at owners.old pe ≡ None }
     ensures { Owns files.now pe owners.old owners.new }
@@ -100,7 +101,7 @@ fn set_owner(owners: &mut Membership, files: &Files, pe: u8)
 
 // Which kernel owns which PE.
 fn owners(files: &Files) -> Membership
-    ensures { OwnsBelow files.now PES_LEM result }
+    ensures { OwnsBelow files.now PES_SPEC result }
 {
     let mut owners = Membership::empty(files.kernels);
     for pe in 0..PES {

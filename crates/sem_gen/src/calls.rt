@@ -3,7 +3,7 @@ ghost use Rattle.std.specs.Prelude.{◌≡◌, ◌≤◌, IfOk, OnOk};
 ghost use Rattle.rand_pcg.specs.Lcg.{advance};
 ghost use Rattle.rand_pcg.specs.Pcg.{multiplier_64};
 ghost use Rattle.sem_gen.specs.Drawn.{drawn};
-ghost use Rattle.sem_gen.specs.Generated.{call_of as call_of_lem};
+ghost use Rattle.sem_gen.specs.Generated.{call_of as call_of_spec};
 
 use rand_core::utils::NextWord;
 use rand_pcg::Lcg64Xsh32;
@@ -34,7 +34,7 @@ pub fn draw_calls(
 fn call_of(word: u32, vpes: u32) -> Call
     requires some { 1 ≤ vpes }
     requires few { vpes ≤ 128 }
-    ensures { result ≡ call_of_lem vpes word }
+    ensures { result ≡ call_of_spec vpes word }
 {
     let target = (1 + word / 4 % 15) as u8;
     let source = (word / 256 % 16) as u8;

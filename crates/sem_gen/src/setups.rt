@@ -2,9 +2,9 @@
 ghost use Rattle.std.specs.Prelude.{◌≡◌, ◌+◌, ◌*◌, ◌/◌, ◌<◌, ◌≤◌, IfOk, map};
 ghost use Rattle.std.specs.List.{range_with_len};
 ghost use Rattle.sem_key.specs.declared.limits.TheConstants.{KERNELS};
-ghost use Rattle.sem_gen.specs.Generated.{generated, owners_of as owners_lem};
-ghost use Rattle.sem_gen.specs.Generated.{roots_of as roots_lem, version_of as version_lem};
-ghost use Rattle.sem_gen.specs.Generated.{vpe_of as vpe_lem};
+ghost use Rattle.sem_gen.specs.Generated.{generated, owners_of as owners_spec};
+ghost use Rattle.sem_gen.specs.Generated.{roots_of as roots_spec, version_of as version_spec};
+ghost use Rattle.sem_gen.specs.Generated.{vpe_of as vpe_spec};
 
 use crate::calls::draw_calls;
 use rand_pcg::Lcg64Xsh32;
@@ -41,7 +41,7 @@ pub fn generate(alloc: Global, seed: u64, vpes: u32, calls: u32) -> Result<Setup
 
 // The first version that has room for that many VPEs.
 fn version_of(vpes: u32) -> u8
-    ensures { result ≡ version_lem vpes }
+    ensures { result ≡ version_spec vpes }
 {
     if vpes > 64 { 2 } else { 1 }
 }
@@ -51,7 +51,7 @@ fn own(vpes: u32, kernels: u32) -> Membership
     requires few { vpes ≤ 128 }
     requires some_kernel { 1 ≤ kernels }
     requires few_kernels { kernels ≤ KERNELS }
-    ensures { result ≡ record { kernels = kernels; owners = owners_lem kernels vpes } }
+    ensures { result ≡ record { kernels = kernels; owners = owners_spec kernels vpes } }
 {
     let mut owners = Membership::empty(kernels);
     for pe in 0..vpes {
@@ -64,7 +64,7 @@ fn own(vpes: u32, kernels: u32) -> Membership
 fn declare(alloc: Global, seed: u64, vpes: u32, calls: u32) -> Result<Vpes0, OutOfMemory>
     requires some { 1 ≤ vpes }
     requires few { vpes ≤ 128 }
-    ensures { IfOk result (λ list. list ≡ map (vpe_lem seed vpes calls) (range_with_len 0 vpes)) }
+    ensures { IfOk result (λ list. list ≡ map (vpe_spec seed vpes calls) (range_with_len 0 vpes)) }
 {
     let mut words = Lcg64Xsh32::new(seed, 1);
     let mut list = Vpes0::new(alloc);
@@ -82,7 +82,7 @@ fn declare(alloc: Global, seed: u64, vpes: u32, calls: u32) -> Result<Vpes0, Out
 // What a VPE holds at the start: memory of its own.
 fn roots_of(alloc: Global, vpe: u32) -> Result<Roots, OutOfMemory>
     requires { vpe < 128 }
-    ensures { IfOk result (λ roots. roots ≡ roots_lem vpe) }
+    ensures { IfOk result (λ roots. roots ≡ roots_spec vpe) }
 {
     let mut roots = Roots::new(alloc);
     roots.push(Root {

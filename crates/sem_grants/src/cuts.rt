@@ -7,8 +7,8 @@ ghost use Rattle.sem_key.specs.Region.{has_key};
 ghost use Rattle.indexmap.specs.IndexSet.{contains};
 ghost use Rattle.sem_machine.specs.Journals.{cut_from, ends, has_ended, cut};
 ghost use Rattle.sem_grants.specs.Backward.{clears, cleared_child, revoked, HasVpes};
-ghost use Rattle.sem_grants.specs.Ending.{ended_by as ended_by_lem};
-ghost use Rattle.sem_grants.specs.Words.{HasWords, has_word as has_word_lem};
+ghost use Rattle.sem_grants.specs.Ending.{ended_by as ended_by_spec};
+ghost use Rattle.sem_grants.specs.Words.{HasWords, has_word as has_word_spec};
 
 use crate::makes::made_keys;
 use crate::words::{add_word, has_word};
@@ -60,7 +60,7 @@ fn push_cleared_child(
     entry: &Entry,
 ) -> Result<(), OutOfMemory>
     ensures found { OnOk result (found.new.items
-        ≡ found.old.items ++ cleared_child (has_word_lem cleared.now) entry.now.grant) }
+        ≡ found.old.items ++ cleared_child (has_word_spec cleared.now) entry.now.grant) }
     ensures valid { IfSome entry.now.grant (λ grant. IsValidKey grant.0) }
 {
     if let Some((parent, child)) = entry.grant {
@@ -92,7 +92,7 @@ fn push_revoked(found: &mut Vec<Key>, entry: &Entry) -> Result<(), OutOfMemory>
 // Adds the word of the key that the entry clears, if it clears one.
 fn add_cleared(cleared: &mut IndexSet<u64>, entry: &Entry) -> Result<(), OutOfMemory>
     ensures { OnOk result (HasWords cleared.new
-        (λ k. has_word_lem cleared.old k || clears entry.now.detail entry.now.cut k)) }
+        (λ k. has_word_spec cleared.old k || clears entry.now.detail entry.now.cut k)) }
 {
     if let (
         Detail::Called {
@@ -178,7 +178,7 @@ fn add_ended(ended: &mut IndexSet<u16>, entry: &Entry) -> Result<(), OutOfMemory
 
 /// The VPE that ends by the entry, if one does.
 pub fn ended_by(entry: &Entry) -> Option<u16>
-    ensures { result ≡ ended_by_lem entry.now.event.act entry.now.detail }
+    ensures { result ≡ ended_by_spec entry.now.event.act entry.now.detail }
 {
     match (entry.event.act, entry.detail) {
         (Act::Kill { vpe }, _) => Some(vpe),

@@ -4,7 +4,7 @@ ghost use Rattle.sem_key.specs.declared.limits.TheConstants.{PES, VPES};
 ghost use Rattle.sem_msg.specs.declared.limits.TheConstants.{SELECTORS};
 ghost use Rattle.sem_msg.specs.Setup.{IsSetup};
 ghost use Rattle.sem_machine.specs.Journals.{grants, made};
-ghost use Rattle.sem_machine.specs.Journals.{root_keys_from, root_keys as root_keys_lem};
+ghost use Rattle.sem_machine.specs.Journals.{root_keys_from, root_keys as root_keys_spec};
 
 use sem_key::{Key, OutOfMemory};
 use sem_msg::{Journal, Setup, VpeDecl};
@@ -22,7 +22,7 @@ pub fn made_keys(alloc: Global, setup: &Setup, journal: &Journal) -> Result<Vec<
 
 // The keys of all roots and services.
 fn root_keys(alloc: Global, setup: &Setup) -> Result<Vec<Key>, OutOfMemory>
-    ensures keys { IfOk result (λ keys. keys.items ≡ root_keys_lem setup.now) }
+    ensures keys { IfOk result (λ keys. keys.items ≡ root_keys_spec setup.now) }
     ensures valid { IsSetup setup.now }
 {
     let mut keys = Vec::new(alloc);

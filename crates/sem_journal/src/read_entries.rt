@@ -7,11 +7,11 @@ ghost use Rattle.sem_trace.specs.TextLines.{words_of};
 ghost use Rattle.sem_journal.specs.EntryText.{entry_words};
 ghost use Rattle.sem_trace.specs.Forms.{form_fault};
 ghost use Rattle.sem_trace.specs.Places.{number_place, told_fault};
-ghost use Rattle.sem_journal.specs.EntryForms.{kernel as kernel_lem, entry_form, entry_fault};
+ghost use Rattle.sem_journal.specs.EntryForms.{kernel as kernel_spec, entry_form, entry_fault};
 ghost use Rattle.sem_journal.specs.EntryForms.{has_long_memory};
-ghost use Rattle.sem_journal.specs.ShownWords.{is_long as is_long_lem};
-ghost use Rattle.sem_journal.specs.ShownWords.{carries_long as carries_long_lem};
-ghost use Rattle.sem_journal.specs.ShownWords.{length_word as length_word_lem};
+ghost use Rattle.sem_journal.specs.ShownWords.{is_long as is_long_spec};
+ghost use Rattle.sem_journal.specs.ShownWords.{carries_long as carries_long_spec};
+ghost use Rattle.sem_journal.specs.ShownWords.{length_word as length_word_spec};
 ghost use Rattle.sem_journal.specs.EntryRanges.{EventFits, EntryFits};
 ghost use Rattle.sem_journal.specs.Readers.{ReadsKernel, ReadsConsent, ReadsEvent, ReadsCarried};
 ghost use Rattle.sem_journal.specs.Readers.{ReadsReply, ReadsCut, ReadsBehindCut, ReadsBehindGrant};
@@ -33,7 +33,7 @@ const NOTHING: Shown = Shown {
 // One of that many kernels.
 fn kernel_range(kernels: u32) -> Range
     requires { 1 ≤ kernels }
-    ensures { number_place result ≡ kernel_lem kernels }
+    ensures { number_place result ≡ kernel_spec kernels }
 {
     Range {
         least: 0,
@@ -263,7 +263,7 @@ fn shown(words: &mut Words<'_>, version: u8) -> Result<Shown, Cause>
 
 // Whether the object is memory that ends past 2 ^ 32.
 fn is_long(object: &Object) -> bool
-    ensures { result ≡ is_long_lem object.now }
+    ensures { result ≡ is_long_spec object.now }
 {
     match object {
         Object::Mem { base, len, .. } => u64::from(*base) + u64::from(*len) > 4294967296,
@@ -273,7 +273,7 @@ fn is_long(object: &Object) -> bool
 
 // Whether the detail carries such memory.
 fn carries_long(detail: &Detail) -> bool
-    ensures { result ≡ carries_long_lem detail.now }
+    ensures { result ≡ carries_long_spec detail.now }
 {
     match detail {
         Detail::Carried {
@@ -286,7 +286,7 @@ fn carries_long(detail: &Detail) -> bool
 
 // The word with the length of such memory, in an entry.
 fn length_word(detail: &Detail) -> u64
-    ensures { result ≡ length_word_lem detail.now }
+    ensures { result ≡ length_word_spec detail.now }
 {
     match detail {
         Detail::Carried {

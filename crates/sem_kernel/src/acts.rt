@@ -4,7 +4,7 @@ ghost use Rattle.std.specs.Option.{option_map_or};
 ghost use Rattle.sem_msg.specs.declared.event.Act.TheVariants.{Call as Calls, Fetch, Handle};
 ghost use Rattle.sem_msg.specs.declared.event.Act.TheVariants.{Upcall, Resume, Flush, Kill};
 ghost use Rattle.sem_msg.specs.declared.entry.Detail.TheVariants.{Carried, Nothing};
-ghost use Rattle.sem_machine.specs.Machine.{asked_detail as asked_detail_lem, is_locally_enabled};
+ghost use Rattle.sem_machine.specs.Machine.{asked_detail as asked_detail_spec, is_locally_enabled};
 ghost use Rattle.sem_kernel.specs.KernelStores.{side_of, AreSound};
 ghost use Rattle.sem_kernel.specs.Acting.{StoresCanAct, DoesAct};
 ghost use Rattle.sem_kernel.specs.Rooms.{IsReady};
@@ -143,7 +143,7 @@ fn carried(peer: u32, message: &Option<Message>) -> Detail
 
 // The VPE that asked, if one did, and the answer.
 fn asked_detail(outcome: &Outcome) -> Detail
-    ensures { result ≡ asked_detail_lem outcome.now }
+    ensures { result ≡ asked_detail_spec outcome.now }
 {
     match outcome.asked {
         Some((asker, answer)) => Detail::Asked { asker, answer },

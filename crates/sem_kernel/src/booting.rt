@@ -2,7 +2,7 @@
 ghost use Rattle.std.specs.Prelude.{◌≡◌, ◌<◌, ◌≤◌, All, None, IfOk, OnOk};
 ghost use Rattle.sem_key.specs.declared.limits.TheConstants.{NUMBERS, PES, VPES};
 ghost use Rattle.sem_key.specs.CapList.{cap_of, fresh, with_cap};
-ghost use Rattle.sem_msg.specs.Setup.{root_key as root_key_lem};
+ghost use Rattle.sem_msg.specs.Setup.{root_key as root_key_spec};
 ghost use Rattle.sem_vpe.specs.Starting.{IsStartable};
 ghost use Rattle.sem_machine.specs.Sides.{Side};
 ghost use Rattle.sem_machine.specs.Machine.{start_side, vpe_added};
@@ -78,10 +78,10 @@ fn add_root(caps: &mut Caps, decl: &VpeDecl, number: u16, root: &Root) -> Result
     requires vpe { decl.now.vpe < VPES }
     requires pe { decl.now.pe < PES }
     requires number { number < NUMBERS }
-    requires absent { cap_of caps.old.caps (root_key_lem decl.now number root.now) ≡ None }
+    requires absent { cap_of caps.old.caps (root_key_spec decl.now number root.now) ≡ None }
     ensures { OnOk result (caps.new.caps
         ≡ with_cap caps.old.caps
-        (fresh (root_key_lem decl.now number root.now) None root.now.sel root.now.object)) }
+        (fresh (root_key_spec decl.now number root.now) None root.now.sel root.now.object)) }
 {
     caps.room(1, None)?;
     let key = root_key(decl, number, root);
@@ -94,7 +94,7 @@ fn root_key(decl: &VpeDecl, number: u16, root: &Root) -> Key
     requires vpe { decl.now.vpe < VPES }
     requires pe { decl.now.pe < PES }
     requires number { number < NUMBERS }
-    ensures { result ≡ root_key_lem decl.now number root.now }
+    ensures { result ≡ root_key_spec decl.now number root.now }
 {
     Key {
         pe: decl.pe,

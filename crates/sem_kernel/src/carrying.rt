@@ -3,7 +3,7 @@ ghost use Rattle.std.specs.Prelude.{◌≡◌, ◌<◌, ◌&&◌, true};
 ghost use Rattle.sem_msg.specs.declared.event.Act.TheVariants.{Flush};
 ghost use Rattle.sem_machine.specs.Machine.{is_locally_enabled};
 ghost use Rattle.sem_kernel.specs.KernelValue.{is_timely, IsInput};
-ghost use Rattle.sem_kernel.specs.Worlds.{is_passable as is_passable_lem, taken, carried};
+ghost use Rattle.sem_kernel.specs.Worlds.{is_passable as is_passable_spec, taken, carried};
 ghost use Rattle.sem_kernel.specs.Worlds.{NamesPeer, CanDo};
 
 use crate::kernel::Kernel;
@@ -14,7 +14,7 @@ use sem_msg::{Act, Message};
 pub fn is_passable(fabric: &Fabric, kernel: u32, act: Act) -> bool
     requires kernel { kernel < fabric.now.kernels }
     requires peer { NamesPeer fabric.now.kernels kernel act }
-    ensures { result ≡ is_passable_lem fabric.now kernel act }
+    ensures { result ≡ is_passable_spec fabric.now kernel act }
 {
     match act {
         Act::Fetch { from } => fabric.waiting(from, kernel) > 0,

@@ -1,10 +1,10 @@
 // Which acts of a kernel are enabled, as far as its stores tell.
 ghost use Rattle.std.specs.Prelude.{◌≡◌, true, is_some, slice_get, length};
 ghost use Rattle.std.specs.Option.{option_map};
-ghost use Rattle.sem_msg.specs.Lookups.{kernel_of as kernel_of_lem, calls_of};
+ghost use Rattle.sem_msg.specs.Lookups.{kernel_of as kernel_of_spec, calls_of};
 ghost use Rattle.sem_machine.specs.Machine.{is_locally_enabled};
-ghost use Rattle.sem_machine.specs.Machine.{next_call as next_call_lem};
-ghost use Rattle.sem_machine.specs.Resumes.{can_resume as can_resume_lem};
+ghost use Rattle.sem_machine.specs.Machine.{next_call as next_call_spec};
+ghost use Rattle.sem_machine.specs.Resumes.{can_resume as can_resume_spec};
 ghost use Rattle.sem_machine.specs.Sides.{is_alive, outbox, parked, row};
 ghost use Rattle.sem_kernel.specs.KernelStores.{side_of, AreStoresOf, AreSound};
 ghost use Rattle.sem_kernel.specs.Listing.{AreVpeActs};
@@ -60,7 +60,7 @@ impl Stores {
     #[tactic(auto, unfolding(sem_machine::specs::Machine::is_locally_enabled))]
     pub fn vpe_acts(&self, setup: &Setup, kernel: u32, own: OwnVpe) -> VpeActs
         requires are { AreSound setup.now kernel self.now }
-        requires here { kernel_of_lem setup.now own.vpe ≡ kernel }
+        requires here { kernel_of_spec setup.now own.vpe ≡ kernel }
         requires calls { length (calls_of setup.now own.vpe) ≡ own.calls }
         ensures { AreVpeActs setup.now kernel (side_of self.now) own.vpe result }
     {
@@ -77,9 +77,9 @@ impl Stores {
     // Whether a VPE, one of this kernel, makes one more call.
     fn has_next_call(&self, setup: &Setup, kernel: u32, own: OwnVpe) -> bool
         requires stores { AreStoresOf setup.now kernel self.now }
-        requires here { kernel_of_lem setup.now own.vpe ≡ kernel }
+        requires here { kernel_of_spec setup.now own.vpe ≡ kernel }
         requires calls { length (calls_of setup.now own.vpe) ≡ own.calls }
-        ensures { result ≡ is_some (next_call_lem setup.now (side_of self.now) own.vpe) }
+        ensures { result ≡ is_some (next_call_spec setup.now (side_of self.now) own.vpe) }
     {
         (self.vpes.next_call(own.vpe) as usize) < own.calls
     }
@@ -87,7 +87,7 @@ impl Stores {
     // Whether an ask waits for the VPE, one of this kernel.
     fn is_asked(&self, setup: &Setup, kernel: u32, vpe: u16) -> bool
         requires stores { AreStoresOf setup.now kernel self.now }
-        requires here { kernel_of_lem setup.now vpe ≡ kernel }
+        requires here { kernel_of_spec setup.now vpe ≡ kernel }
         ensures { result ≡ is_some (slice_get (row (side_of self.now) vpe).asks 0) }
     {
         self.vpes.asks(vpe) > 0
@@ -96,8 +96,8 @@ impl Stores {
     // The call that the VPE, one of this kernel, makes next.
     pub fn next_call(&self, setup: &Setup, kernel: u32, vpe: u16) -> Option<Call>
         requires stores { AreStoresOf setup.now kernel self.now }
-        requires here { kernel_of_lem setup.now vpe ≡ kernel }
-        ensures { result ≡ next_call_lem setup.now (side_of self.now) vpe }
+        requires here { kernel_of_spec setup.now vpe ≡ kernel }
+        ensures { result ≡ next_call_spec setup.now (side_of self.now) vpe }
     {
         let decl = setup.decl(vpe)?;
         decl.calls.get(self.vpes.next_call(vpe) as usize).copied()
@@ -106,7 +106,7 @@ impl Stores {
 
 // Whether a call in that state can go on.
 fn can_resume(state: &Option<Parked>) -> bool
-    ensures { result ≡ can_resume_lem state.now }
+    ensures { result ≡ can_resume_spec state.now }
 {
     matches!(
         state,

@@ -1,12 +1,12 @@
 // The end of a VPE on the stores of a kernel.
 ghost use Rattle.std.specs.Prelude.{◌≡◌, ℕ, ◌+◌, length};
 ghost use Rattle.sem_key.specs.Lists.{in_turn};
-ghost use Rattle.sem_msg.specs.Lookups.{kernel_of as kernel_of_lem};
+ghost use Rattle.sem_msg.specs.Lookups.{kernel_of as kernel_of_spec};
 ghost use Rattle.sem_machine.specs.Sides.{cap, row};
 ghost use Rattle.sem_machine.specs.Ends.{ended, revoked_if_left};
 ghost use Rattle.sem_kernel.specs.KernelStores.{side_of, AreStoresOf, AreSound};
 ghost use Rattle.sem_kernel.specs.Rooms.{HasRoomForJobs, HasRoomToRevoke};
-ghost use Rattle.sem_kernel.specs.Ending.{is_unmarked as is_unmarked_lem};
+ghost use Rattle.sem_kernel.specs.Ending.{is_unmarked as is_unmarked_spec};
 
 use crate::stores::Stores;
 use sem_key::Key;
@@ -18,7 +18,7 @@ impl Stores {
     // Ends the VPE, and revokes what it holds.
     pub fn end(&mut self, setup: &Setup, kernel: u32, vpe: u16)
         requires are { AreSound setup.now kernel self.old }
-        requires here { kernel_of_lem setup.now vpe ≡ kernel }
+        requires here { kernel_of_spec setup.now vpe ≡ kernel }
         requires room { HasRoomToRevoke (length (row (side_of self.old) vpe).asks) self.old }
         ensures row { side_of self.new ≡ ended setup.now kernel vpe (side_of self.old) }
         ensures stores { AreStoresOf setup.now kernel self.new }
@@ -78,7 +78,7 @@ impl Stores {
 
     // Whether the key is held and unmarked.
     fn is_unmarked(&self, key: Key) -> bool
-        ensures { result ≡ is_unmarked_lem (cap (side_of self.now) key) }
+        ensures { result ≡ is_unmarked_spec (cap (side_of self.now) key) }
     {
         match self.caps.get(key) {
             Some(cap) => cap.mark.is_none(),

@@ -3,10 +3,11 @@ ghost use Rattle.std.specs.Prelude.{◌≡◌, ◌<◌, ◌&&◌, ◌↔◌, ◌
 ghost use Rattle.std.specs.Prelude.{slice_index_or, None, is_some, IfSome, IfOk, OnOk, OnErr};
 ghost use Rattle.std.specs.Prelude.{IsErrOf};
 ghost use Rattle.sem_msg.specs.Fabric.{entered};
-ghost use Rattle.sem_machine.specs.Machine.{is_enabled as is_enabled_lem, after as after_lem};
+ghost use Rattle.sem_machine.specs.Machine.{is_enabled as is_enabled_spec, after as after_spec};
 ghost use Rattle.sem_machine.specs.Machine.{entry_of};
-ghost use Rattle.sem_kernel.specs.Worlds.{world_of, AreKernelsOf, IsFabricOf, can_do as can_do_lem};
-ghost use Rattle.sem_kernel.specs.Worlds.{is_passable as is_passable_lem, CanDo, CanTry};
+ghost use Rattle.sem_kernel.specs.Worlds.{world_of, AreKernelsOf, IsFabricOf};
+ghost use Rattle.sem_kernel.specs.Worlds.{can_do as can_do_spec};
+ghost use Rattle.sem_kernel.specs.Worlds.{is_passable as is_passable_spec, CanDo, CanTry};
 ghost use Rattle.sem_kernel.specs.Worlds.{HasReplied, HasNotDone};
 ghost use Rattle.sem_kernel.specs.Standing.{StandsAt};
 
@@ -40,7 +41,7 @@ impl From<OutOfMemory> for StepError {
 /// memory.
 pub fn is_enabled(setup: &Setup, kernels: &[Kernel], fabric: &Fabric, event: Event) -> bool
     requires { AreKernelsOf setup.now kernels.now fabric.now }
-    ensures { result ≡ is_enabled_lem setup.now (world_of kernels.now fabric.now) event }
+    ensures { result ≡ is_enabled_spec setup.now (world_of kernels.now fabric.now) event }
 {
     event.kernel < setup.kernels && can_do(&kernels[event.kernel as usize], fabric, event.act)
 }
@@ -57,11 +58,11 @@ pub fn happen(
     requires { AreKernelsOf setup.now kernels.old.items fabric.old }
     ensures together { AreKernelsOf setup.now kernels.new.items fabric.new }
     ensures not_enabled { IsErrOf result StepError.NotEnabled
-        ↔ (is_enabled_lem setup.now (world_of kernels.old.items fabric.old) event ≡ false) }
+        ↔ (is_enabled_spec setup.now (world_of kernels.old.items fabric.old) event ≡ false) }
     ensures entry { IfOk result (λ entry. entry
         ≡ entry_of setup.now (world_of kernels.old.items fabric.old) event) }
     ensures after { IfOk result (λ entry. world_of kernels.new.items fabric.new
-        ≡ after_lem setup.now (world_of kernels.old.items fabric.old) event) }
+        ≡ after_spec setup.now (world_of kernels.old.items fabric.old) event) }
     ensures journal { IfOk result (λ entry. fabric.new.journal ≡ fabric.old.journal ++ entry ∷ []) }
     ensures unchanged { OnErr result (world_of kernels.new.items fabric.new
         ≡ world_of kernels.old.items fabric.old) }
@@ -85,13 +86,13 @@ pub fn happen_enabled(
     event: Event,
 ) -> Result<Entry, OutOfMemory>
     requires together { AreKernelsOf setup.now kernels.old.items fabric.old }
-    requires enabled { is_enabled_lem setup.now (world_of kernels.old.items fabric.old) event
+    requires enabled { is_enabled_spec setup.now (world_of kernels.old.items fabric.old) event
         ≡ true }
     ensures together { AreKernelsOf setup.now kernels.new.items fabric.new }
     ensures entry { IfOk result (λ entry. entry
         ≡ entry_of setup.now (world_of kernels.old.items fabric.old) event) }
     ensures after { IfOk result (λ entry. world_of kernels.new.items fabric.new
-        ≡ after_lem setup.now (world_of kernels.old.items fabric.old) event) }
+        ≡ after_spec setup.now (world_of kernels.old.items fabric.old) event) }
     ensures journal { IfOk result (λ entry. fabric.new.journal ≡ fabric.old.journal ++ entry ∷ []) }
     ensures unchanged { OnErr result (world_of kernels.new.items fabric.new
         ≡ world_of kernels.old.items fabric.old) }
@@ -113,13 +114,13 @@ pub fn advance(
     event: Event,
 ) -> Result<bool, OutOfMemory>
     requires together { AreKernelsOf setup.now kernels.old.items fabric.old }
-    requires enabled { is_enabled_lem setup.now (world_of kernels.old.items fabric.old) event
+    requires enabled { is_enabled_spec setup.now (world_of kernels.old.items fabric.old) event
         ≡ true }
     ensures together { AreKernelsOf setup.now kernels.new.items fabric.new }
     ensures replied { IfOk result (λ b. b
         ≡ is_some (entry_of setup.now (world_of kernels.old.items fabric.old) event).reply) }
     ensures after { OnOk result (world_of kernels.new.items fabric.new
-        ≡ after_lem setup.now (world_of kernels.old.items fabric.old) event) }
+        ≡ after_spec setup.now (world_of kernels.old.items fabric.old) event) }
     ensures journal { OnOk result (fabric.new.journal ≡ fabric.old.journal
         ++ entry_of setup.now (world_of kernels.old.items fabric.old) event ∷ []) }
     ensures unchanged { OnErr result (world_of kernels.new.items fabric.new
@@ -137,7 +138,7 @@ pub fn advance(
 fn can_do(kernel: &Kernel, fabric: &Fabric, act: Act) -> bool
     requires few { kernel.now.id < kernel.now.setup.kernels }
     requires fabric { IsFabricOf kernel.now.setup fabric.now }
-    ensures { result ≡ can_do_lem kernel.now fabric.now act }
+    ensures { result ≡ can_do_spec kernel.now fabric.now act }
 {
     kernel.enabled(act, fabric.replies()) && is_passable(fabric, kernel.id(), act)
 }
@@ -165,7 +166,7 @@ fn step(kernel: &mut Kernel, fabric: &mut Fabric, act: Act) -> Result<bool, OutO
 /// side tells, and ready, and the kernel must have a place in the journal.
 pub fn try_step(kernel: &mut Kernel, fabric: &mut Fabric, act: Act) -> Option<bool>
     requires { CanTry kernel.old fabric.old act }
-    ensures allowed { is_some result ≡ is_passable_lem fabric.old kernel.old.id act }
+    ensures allowed { is_some result ≡ is_passable_spec fabric.old kernel.old.id act }
     ensures done { IfSome result (HasReplied kernel.old fabric.old act kernel.new fabric.new) }
     ensures not_done { result ≡ None → HasNotDone kernel.old fabric.old kernel.new fabric.new }
 {

@@ -8,7 +8,7 @@ ghost use Rattle.sem_msg.specs.Masks.{IsMaskOf};
 ghost use Rattle.sem_machine.specs.Sides.{is_alive, endpoint, cap, parked as parked_of, outbox};
 ghost use Rattle.sem_machine.specs.Machine.{start_side, is_locally_enabled, local_step};
 ghost use Rattle.sem_machine.specs.Machine.{local_entry, replied_vpe};
-ghost use Rattle.sem_kernel.specs.KernelValue.{is_timely as is_timely_lem, IsInput};
+ghost use Rattle.sem_kernel.specs.KernelValue.{is_timely as is_timely_spec, IsInput};
 ghost use Rattle.sem_kernel.specs.Listing.{AreVpeActs};
 ghost use Rattle.sem_kernel.specs.Owning.{own_rows};
 
@@ -100,7 +100,7 @@ impl Kernel {
     /// fetch it does not know the link; for a flush it does not know whether the link has room.
     pub fn enabled(&self, act: Act, replies: u64) -> bool
         ensures { result ≡ (is_locally_enabled self.now.setup self.now.id self.now.side act
-            && is_timely_lem self.now.setup replies act) }
+            && is_timely_spec self.now.setup replies act) }
     {
         is_timely(self.setup.get(), replies, act)
             && self.stores.is_enabled(self.setup.get(), self.id, act)
@@ -258,7 +258,7 @@ impl Kernel {
 
 // Whether the act comes in time: a kill waits for its number of replies.
 fn is_timely(setup: &Setup, replies: u64, act: Act) -> bool
-    ensures { result ≡ is_timely_lem setup.now replies act }
+    ensures { result ≡ is_timely_spec setup.now replies act }
 {
     match act {
         Act::Kill { vpe } => setup.is_due(replies, vpe),

@@ -4,11 +4,9 @@
 
 mod acts;
 mod booting;
-mod calls;
 mod carrying;
 mod enabling;
 mod ends;
-mod handles;
 mod happening;
 mod kernel;
 mod listing;

@@ -15,10 +15,12 @@ ghost use Rattle.sem_kernel.specs.Rooms.{HasRoom, HasRoomToRevoke, called_parent
 ghost use Rattle.sem_kernel.specs.Rooms.{is_revoking};
 
 use crate::stores::Stores;
-use sem_delegate::delegate_refused;
+use sem_delegate::{ack, delegate_call, delegate_prepared, delegate_refused, delegate_request};
 use sem_msg::{Call, Code, Message, Outcome, Setup};
-use sem_obtain::{obtain_refused, obtain_request, orphan, unlink};
-use sem_own::{Part, bind_call, credit_call, derive_call, read_call, send_call, write_call};
+use sem_obtain::{obtain_answer, obtain_call, obtain_refused, obtain_request, offer_call, open_call};
+use sem_obtain::{orphan, unlink};
+use sem_own::{Part, bind_call, credit_call, derive_call, gate_call, read_call, send_call};
+use sem_own::write_call;
 
 impl Stores {
     // The VPE makes the call, which was counted and pays for a job.
@@ -34,6 +36,14 @@ impl Stores {
         ensures { HasCalled setup.now kernel self.new result
             (call_row setup.now kernel (side_of self.old) vpe call) }
     {
+        let Stores {
+            caps,
+            vpes,
+            dtus,
+            park,
+            outs,
+            ..
+        } = self;
         match call {
             Call::Derive {
                 src,
@@ -41,34 +51,37 @@ impl Stores {
                 off,
                 len,
                 rights,
-            } => {
-                let part = Part { off, len, rights };
-                derive_call(setup, vpe, src, dst, &part, &mut self.caps, &mut self.vpes)
-            }
+            } => derive_call(setup, vpe, src, dst, &Part { off, len, rights }, caps, vpes),
             Call::Gate {
                 src,
                 dst,
                 label,
                 credits,
-            } => self.gate(setup, kernel, vpe, src, dst, label, credits),
-            Call::Obtain { dst, vpe: of, src } => self.obtain(setup, kernel, vpe, dst, of, src),
-            Call::Delegate { src, vpe: to, dst } => self.delegate(setup, kernel, vpe, src, to, dst),
-            Call::OpenSession { dst, name } => self.open(setup, kernel, vpe, dst, name),
+            } => gate_call(setup, vpe, src, dst, label, credits, caps, vpes),
+            Call::Obtain { dst, vpe: of, src } => obtain_call(
+                setup, kernel, vpe, dst, of, src, vpes, park, outs,
+            ),
+            Call::Delegate { src, vpe: to, dst } => delegate_call(
+                setup, kernel, vpe, src, to, dst, caps, vpes, park, outs,
+            ),
+            Call::OpenSession { dst, name } => open_call(
+                setup, kernel, vpe, dst, name, vpes, park, outs,
+            ),
             Call::AskOffer {
                 dst,
                 session,
                 index,
-            } => self.ask(setup, kernel, vpe, dst, session, index),
+            } => offer_call(
+                setup, kernel, vpe, dst, session, index, caps, vpes, park, outs,
+            ),
             Call::Revoke { src } => self.revoke(setup, kernel, vpe, src),
             Call::Clear { src } => self.clear(setup, kernel, vpe, src),
             Call::Exit => self.exit(setup, kernel, vpe),
-            Call::Bind { ep, src } => {
-                bind_call(vpe, ep, src, &self.caps, &self.vpes, &mut self.dtus)
-            }
-            Call::Read { ep, off, len } => read_call(vpe, ep, off, len, &mut self.dtus),
-            Call::Write { ep, off, len } => write_call(vpe, ep, off, len, &mut self.dtus),
-            Call::Send { ep, len } => send_call(vpe, ep, len, &mut self.dtus),
-            Call::Credit { ep } => credit_call(vpe, ep, &mut self.dtus),
+            Call::Bind { ep, src } => bind_call(vpe, ep, src, caps, vpes, dtus),
+            Call::Read { ep, off, len } => read_call(vpe, ep, off, len, dtus),
+            Call::Write { ep, off, len } => write_call(vpe, ep, off, len, dtus),
+            Call::Send { ep, len } => send_call(vpe, ep, len, dtus),
+            Call::Credit { ep } => credit_call(vpe, ep, dtus),
         }
     }
 
@@ -106,38 +119,47 @@ impl Stores {
         requires revoke { is_request message.now ≡ true → HasRoomToRevoke 0 self.old }
         ensures { HasHandled setup.now kernel from self.old self.new message.now }
     {
+        let Stores {
+            caps,
+            vpes,
+            park,
+            pendings,
+            outs,
+            ..
+        } = self;
         match message {
             Message::ObtainReq { place, target } => {
-                let Stores { vpes, outs, .. } = self;
                 obtain_request(setup, kernel, *place, *target, vpes, outs);
             }
             Message::ObtainOk {
                 parent,
                 key,
                 object,
-            } => self.obtain_answered(setup, kernel, *parent, *key, *object),
+            } => obtain_answer(setup, kernel, *parent, *key, *object, vpes, park, outs),
             Message::ObtainNo { place, code } => {
-                obtain_refused(setup, kernel, *place, *code, &mut self.vpes, &mut self.park);
+                obtain_refused(setup, kernel, *place, *code, vpes, park);
             }
             Message::DelegateReq {
                 parent,
                 object,
                 vpe,
                 sel,
-            } => self.delegate_requested(setup, kernel, *parent, *object, *vpe, *sel),
-            Message::DelegatePrepared { parent, key } => self.delegate_accepted(
-                setup, kernel, *parent, *key,
-            ),
-            Message::DelegateNo { parent, code } => {
-                delegate_refused(setup, kernel, *parent, *code, &self.vpes, &mut self.park);
+            } => delegate_request(setup, kernel, *parent, *object, *vpe, *sel, vpes, outs),
+            Message::DelegatePrepared { parent, key } => {
+                delegate_prepared(setup, kernel, *parent, *key, vpes, park, outs);
             }
-            Message::Ack { key, yes } => self.acknowledged(setup, kernel, *key, *yes),
-            Message::Orphan { parent, key } => orphan(*parent, *key, &mut self.caps),
+            Message::DelegateNo { parent, code } => {
+                delegate_refused(setup, kernel, *parent, *code, vpes, park);
+            }
+            Message::Ack { key, yes } => {
+                ack(setup, kernel, *key, *yes, caps, vpes, pendings, outs);
+            }
+            Message::Orphan { parent, key } => orphan(*parent, *key, caps),
             Message::RevokeReq { key, job } => self.revoke_requested(
                 setup, kernel, from, *key, *job,
             ),
             Message::RevokeDone { job } => self.token_returned(setup, kernel, from, *job),
-            Message::Unlink { parent, key } => unlink(*parent, *key, &mut self.caps),
+            Message::Unlink { parent, key } => unlink(*parent, *key, caps),
         }
     }
 }

@@ -2,15 +2,15 @@
 ghost use Rattle.std.specs.Prelude.{◌≡◌, true, ◌≤◌, ◌<◌, slice_get, length, vec_capacity, OnOk};
 ghost use Rattle.std.specs.Prelude.{OnErr};
 ghost use Rattle.std.specs.Option.{option_and_then};
-ghost use Rattle.sem_msg.specs.Lookups.{kernel_of as kernel_of_lem};
+ghost use Rattle.sem_msg.specs.Lookups.{kernel_of as kernel_of_spec};
 ghost use Rattle.sem_machine.specs.Machine.{is_locally_enabled};
 ghost use Rattle.sem_machine.specs.Sides.{parked, row};
 ghost use Rattle.sem_kernel.specs.KernelStores.{side_of, AreStoresOf, AreSound};
 ghost use Rattle.sem_kernel.specs.Rooms.{IsReady, HasGrown, HasSameStores, HasRoomToRevoke};
-ghost use Rattle.sem_kernel.specs.Rooms.{asked_parent as asked_parent_lem};
-ghost use Rattle.sem_kernel.specs.Rooms.{linked_parent as linked_parent_lem};
-ghost use Rattle.sem_kernel.specs.Rooms.{opens_jobs as opens_jobs_lem};
-ghost use Rattle.sem_kernel.specs.Rooms.{ended_asks as ended_asks_lem};
+ghost use Rattle.sem_kernel.specs.Rooms.{asked_parent as asked_parent_spec};
+ghost use Rattle.sem_kernel.specs.Rooms.{linked_parent as linked_parent_spec};
+ghost use Rattle.sem_kernel.specs.Rooms.{opens_jobs as opens_jobs_spec};
+ghost use Rattle.sem_kernel.specs.Rooms.{ended_asks as ended_asks_spec};
 
 use crate::stores::Stores;
 use sem_key::{Key, OutOfMemory};
@@ -85,7 +85,7 @@ impl Stores {
     fn linked_parent(&self, setup: &Setup, kernel: u32, act: Act) -> Option<Key>
         requires are { AreSound setup.now kernel self.now }
         requires enabled { is_locally_enabled setup.now kernel (side_of self.now) act ≡ true }
-        ensures { result ≡ linked_parent_lem setup.now (side_of self.now) act }
+        ensures { result ≡ linked_parent_spec setup.now (side_of self.now) act }
     {
         match act {
             Act::Call { vpe } => match self.next_call(setup, kernel, vpe)? {
@@ -107,8 +107,8 @@ impl Stores {
     // The capability that the answer to the oldest ask of the VPE may link a child to.
     fn asked_parent(&self, setup: &Setup, kernel: u32, vpe: u16) -> Option<Key>
         requires stores { AreStoresOf setup.now kernel self.now }
-        requires here { kernel_of_lem setup.now vpe ≡ kernel }
-        ensures { result ≡ option_and_then (asked_parent_lem setup.now (side_of self.now) vpe)
+        requires here { kernel_of_spec setup.now vpe ≡ kernel }
+        ensures { result ≡ option_and_then (asked_parent_spec setup.now (side_of self.now) vpe)
             (slice_get (row (side_of self.now) vpe).asks 0) }
     {
         let ask = self.vpes.front_ask(vpe);
@@ -128,7 +128,7 @@ impl Stores {
     fn opens_jobs(&self, setup: &Setup, kernel: u32, act: Act) -> bool
         requires are { AreSound setup.now kernel self.now }
         requires enabled { is_locally_enabled setup.now kernel (side_of self.now) act ≡ true }
-        ensures { result ≡ opens_jobs_lem setup.now (side_of self.now) act }
+        ensures { result ≡ opens_jobs_spec setup.now (side_of self.now) act }
     {
         match act {
             Act::Call { vpe } => matches!(
@@ -146,7 +146,7 @@ impl Stores {
     fn ended_asks(&self, setup: &Setup, kernel: u32, act: Act) -> usize
         requires are { AreSound setup.now kernel self.now }
         requires enabled { is_locally_enabled setup.now kernel (side_of self.now) act ≡ true }
-        ensures asks { result ≡ ended_asks_lem (side_of self.now) act }
+        ensures asks { result ≡ ended_asks_spec (side_of self.now) act }
         ensures few { result ≤ 128 }
     {
         match act {

@@ -1,7 +1,7 @@
 // Which messages are strays.
 ghost use Rattle.std.specs.Prelude.{◌≡◌, true};
 ghost use Rattle.sem_msg.specs.ParkedStates.{is_delegate_wait, is_obtain_wait};
-ghost use Rattle.sem_machine.specs.Handles.{is_here, lives_without, is_stray as is_stray_lem};
+ghost use Rattle.sem_machine.specs.Handles.{is_here, lives_without, is_stray as is_stray_spec};
 ghost use Rattle.sem_kernel.specs.KernelStores.{side_of, AreStoresOf};
 
 use crate::stores::Stores;
@@ -13,7 +13,7 @@ impl Stores {
     // kernel, or no call waits for it.
     pub fn is_stray(&self, setup: &Setup, kernel: u32, message: &Message) -> bool
         requires { AreStoresOf setup.now kernel self.now }
-        ensures { result ≡ is_stray_lem setup.now kernel (side_of self.now) message.now }
+        ensures { result ≡ is_stray_spec setup.now kernel (side_of self.now) message.now }
     {
         match message {
             Message::ObtainReq { place, target } => {

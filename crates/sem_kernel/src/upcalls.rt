@@ -7,8 +7,8 @@ ghost use Rattle.sem_machine.specs.Resumes.{resume_row, can_resume};
 ghost use Rattle.sem_kernel.specs.KernelStores.{side_of};
 ghost use Rattle.sem_kernel.specs.Handing.{CanCall, HasCalled};
 ghost use Rattle.sem_kernel.specs.Rooms.{HasRoom, asked_parent, resumed_parent};
-ghost use Rattle.sem_kernel.specs.Ending.{ends_obtain as ends_obtain_lem};
-ghost use Rattle.sem_kernel.specs.Ending.{ends_delegate as ends_delegate_lem};
+ghost use Rattle.sem_kernel.specs.Ending.{ends_obtain as ends_obtain_spec};
+ghost use Rattle.sem_kernel.specs.Ending.{ends_delegate as ends_delegate_spec};
 
 use crate::stores::Stores;
 use sem_delegate::{delegate_resume, delegate_upcall, ready_resume};
@@ -73,7 +73,7 @@ impl Stores {
 
 // Whether a call in that state has the answer to its ask.
 fn ends_obtain(state: &Option<Parked>) -> bool
-    ensures { result ≡ ends_obtain_lem state.now }
+    ensures { result ≡ ends_obtain_spec state.now }
 {
     matches!(
         state,
@@ -83,7 +83,7 @@ fn ends_obtain(state: &Option<Parked>) -> bool
 
 // Whether a call in that state has the answer to its delegate.
 fn ends_delegate(state: &Option<Parked>) -> bool
-    ensures { result ≡ ends_delegate_lem state.now }
+    ensures { result ≡ ends_delegate_spec state.now }
 {
     matches!(state, Some(Parked::DelegateReady { .. }))
 }

@@ -2,9 +2,9 @@ ghost use Rattle.std.specs.Prelude.{◌≡◌, ◌<◌, ◌↔◌, false, true, 
 ghost use Rattle.std.specs.List.{range_with_len};
 ghost use Rattle.std.specs.Option.{option_map};
 ghost use Rattle.sem_msg.specs.Lookups.{kernel_of};
-ghost use Rattle.sem_machine.specs.Sides.{is_alive as is_alive_lem, endpoint};
-ghost use Rattle.sem_machine.specs.Machine.{side, start, enabled, is_enabled as is_enabled_lem};
-ghost use Rattle.sem_machine.specs.Machine.{after as after_lem, entry_of};
+ghost use Rattle.sem_machine.specs.Sides.{is_alive as is_alive_spec, endpoint};
+ghost use Rattle.sem_machine.specs.Machine.{side, start, enabled, is_enabled as is_enabled_spec};
+ghost use Rattle.sem_machine.specs.Machine.{after as after_spec, entry_of};
 ghost use Rattle.sem_kernel.specs.Worlds.{booted, stepped_value};
 
 use crate::happening::{StepError, advance, happen, is_enabled};
@@ -61,14 +61,14 @@ impl World {
 
     /// Whether the event is enabled.
     pub fn is_enabled(&self, event: Event) -> bool
-        ensures { result ≡ is_enabled_lem self.now.setup self.now.world event }
+        ensures { result ≡ is_enabled_spec self.now.setup self.now.world event }
     {
         is_enabled(&self.setup, self.kernels.as_slice(), &self.fabric, event)
     }
 
     /// Whether the VPE is alive; false if it is not declared.
     pub fn is_alive(&self, vpe: u16) -> bool
-        ensures { result ≡ is_alive_lem (side self.now.world (kernel_of self.now.setup vpe)) vpe }
+        ensures { result ≡ is_alive_spec (side self.now.world (kernel_of self.now.setup vpe)) vpe }
     {
         match self.kernels.get(self.setup.kernel_of(vpe) as usize) {
             Some(kernel) => kernel.is_alive(vpe),
@@ -110,13 +110,13 @@ impl World {
     /// refused. After a refusal, or if memory is refused, the world is as before.
     pub fn step(&mut self, event: Event) -> Result<Entry, StepError>
         ensures not_enabled { IsErrOf result StepError.NotEnabled
-            ↔ (is_enabled_lem self.old.setup self.old.world event ≡ false) }
+            ↔ (is_enabled_spec self.old.setup self.old.world event ≡ false) }
         ensures entry { IfOk result (λ entry. entry
             ≡ entry_of self.old.setup self.old.world event) }
         ensures after { IfOk result (λ entry. self.new
             ≡ record {
               setup = self.old.setup;
-              world = after_lem self.old.setup self.old.world event;
+              world = after_spec self.old.setup self.old.world event;
             }) }
         ensures unchanged { OnErr result (self.new ≡ self.old) }
     {
@@ -125,7 +125,7 @@ impl World {
 
     /// Lets the event happen, an enabled one. If memory is refused, the world is as before.
     pub fn advance(&mut self, event: Event) -> Result<(), OutOfMemory>
-        requires { is_enabled_lem self.old.setup self.old.world event ≡ true }
+        requires { is_enabled_spec self.old.setup self.old.world event ≡ true }
         ensures ok { OnOk result (self.new ≡ stepped_value self.old event) }
         ensures err { OnErr result (self.new ≡ self.old) }
     {

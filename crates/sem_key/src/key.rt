@@ -1,7 +1,7 @@
 ghost use Rattle.std.specs.Prelude.{◌≡◌, ◌↔◌, ℕ, Some, IfSome};
 ghost use Rattle.sem_key.specs.KeyName.{KeyName, IsValidKey, kind_number};
-ghost use Rattle.sem_key.specs.KeyName.{kind_numbered as kind_numbered_lem, packed, key_eq};
-ghost use Rattle.sem_key.specs.PlaceName.{keyed as keyed_lem};
+ghost use Rattle.sem_key.specs.KeyName.{kind_numbered as kind_numbered_spec, packed, key_eq};
+ghost use Rattle.sem_key.specs.PlaceName.{keyed as keyed_spec};
 
 use crate::limits::{NUMBERS, PES, VPES};
 use std::marker::Model;
@@ -85,7 +85,7 @@ pub fn pack(key: Key) -> u64
 
 /// The key of that kind at the place.
 pub fn keyed(place: Place, kind: Kind) -> Key
-    ensures { result ≡ keyed_lem place kind }
+    ensures { result ≡ keyed_spec place kind }
 {
     Key {
         pe: place.pe,
@@ -107,7 +107,7 @@ pub fn same_key(one: &Key, other: &Key) -> bool
 
 // The kind of that number; none if no kind has it.
 pub(crate) fn kind_numbered(number: u64) -> Option<Kind>
-    ensures { result ≡ kind_numbered_lem number }
+    ensures { result ≡ kind_numbered_spec number }
 {
     match number {
         1 => Some(Kind::Mem),

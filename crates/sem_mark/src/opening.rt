@@ -10,8 +10,8 @@ ghost use Rattle.sem_msg.specs.JobRows.{with_up};
 ghost use Rattle.sem_msg.specs.declared.state.Up.TheVariants.{Local};
 ghost use Rattle.sem_msg.specs.Outboxes.{HasBoxes};
 ghost use Rattle.sem_machine.specs.Sides.{Side};
-ghost use Rattle.sem_machine.specs.Revokes.{HasOwner, opened, other_marker as other_marker_lem};
-ghost use Rattle.sem_machine.specs.Revokes.{request_or_adopt as request_or_adopt_lem};
+ghost use Rattle.sem_machine.specs.Revokes.{HasOwner, opened, other_marker as other_marker_spec};
+ghost use Rattle.sem_machine.specs.Revokes.{request_or_adopt as request_or_adopt_spec};
 ghost use Rattle.sem_machine.specs.Stores.{with_caps, with_jobs, with_outs};
 ghost use Rattle.sem_mark.specs.Marking.{beginning, HasSpace, LeadsHome};
 ghost use Rattle.sem_mark.specs.Walks.{HasCount};
@@ -107,7 +107,7 @@ fn request_all(
     requires count { HasCount jobs.old.jobs job 0 }
     ensures row { (s : Side) →
         with_caps caps.now.caps (with_jobs jobs.new.jobs jobs.new.next (with_outs outs.new.boxes s))
-        ≡ in_turn (request_or_adopt_lem setup.now kernel job) keys.now
+        ≡ in_turn (request_or_adopt_spec setup.now kernel job) keys.now
         (with_caps caps.now.caps
         (with_jobs jobs.old.jobs jobs.old.next (with_outs outs.old.boxes s))) }
     ensures boxes { HasBoxes setup.now outs.new }
@@ -136,7 +136,7 @@ fn request_or_adopt(
     requires count { HasCount jobs.old.jobs job 18446744073709551614 }
     ensures row { (s : Side) →
         with_caps caps.now.caps (with_jobs jobs.new.jobs jobs.new.next (with_outs outs.new.boxes s))
-        ≡ request_or_adopt_lem setup.now kernel job key
+        ≡ request_or_adopt_spec setup.now kernel job key
         (with_caps caps.now.caps
         (with_jobs jobs.old.jobs jobs.old.next (with_outs outs.old.boxes s))) }
     ensures count { (n : ℕ) → HasCount jobs.old.jobs job n → HasCount jobs.new.jobs job (n + 1) }
@@ -170,7 +170,7 @@ fn adopt(marker: u32, adopter: u32, jobs: &mut Jobs)
 
 // The job that marks the capability of that key, unless it is the given one.
 fn other_marker(caps: &Caps, key: Key, job: u32) -> Option<u32>
-    ensures { result ≡ other_marker_lem job (cap_of caps.now.caps key) }
+    ensures { result ≡ other_marker_spec job (cap_of caps.now.caps key) }
 {
     let cap = caps.get(key)?;
     let marker = cap.mark?;

@@ -6,8 +6,8 @@ ghost use Rattle.sem_key.specs.CapList.{link_count};
 ghost use Rattle.sem_key.specs.Lists.{in_turn};
 ghost use Rattle.sem_key.specs.Region.{has_key, region, children_of, all_marked};
 ghost use Rattle.sem_caps.specs.CapStore.{IsCapStore};
-ghost use Rattle.sem_mark.specs.Walks.{Walk, is_open as is_open_lem, children_at, open_count};
-ghost use Rattle.sem_mark.specs.Walks.{reach as reach_lem};
+ghost use Rattle.sem_mark.specs.Walks.{Walk, is_open as is_open_spec, children_at, open_count};
+ghost use Rattle.sem_mark.specs.Walks.{reach as reach_spec};
 
 use sem_caps::Caps;
 use sem_key::{Key, pack};
@@ -64,7 +64,7 @@ fn reach_children(caps: &mut Caps, parent: Key, job: u32, keys: &mut Vec<Key>, l
         ≤ vec_capacity links.old }
     requires room { vec_len keys.old + open_count caps.old.caps ≤ vec_capacity keys.old }
     ensures walk { (record { caps = caps.new.caps; keys = keys.new.items })
-        ≡ in_turn (reach_lem job) (children_at caps.old.caps parent)
+        ≡ in_turn (reach_spec job) (children_at caps.old.caps parent)
         (record { caps = caps.old.caps; keys = keys.old.items }) }
     ensures rest { caps.new ≡ record caps.old { caps = caps.new.caps } }
     ensures room { vec_len keys.new + open_count caps.new.caps
@@ -86,7 +86,7 @@ fn reach(caps: &mut Caps, key: Key, job: u32, keys: &mut Vec<Key>)
     requires room { vec_len keys.old + open_count caps.old.caps ≤ vec_capacity keys.old }
     ensures store { IsCapStore caps.old }
     ensures walk { (record { caps = caps.new.caps; keys = keys.new.items })
-        ≡ reach_lem job key (record { caps = caps.old.caps; keys = keys.old.items }) }
+        ≡ reach_spec job key (record { caps = caps.old.caps; keys = keys.old.items }) }
     ensures rest { caps.new ≡ record caps.old { caps = caps.new.caps } }
     ensures room { vec_len keys.new + open_count caps.new.caps
         ≤ vec_len keys.old + open_count caps.old.caps }
@@ -100,7 +100,7 @@ fn reach(caps: &mut Caps, key: Key, job: u32, keys: &mut Vec<Key>)
 
 // Whether the capability of that key is held without a mark.
 fn is_open(caps: &Caps, key: Key) -> bool
-    ensures is_open { result ≡ is_open_lem caps.now.caps key }
+    ensures is_open { result ≡ is_open_spec caps.now.caps key }
     ensures store { IsCapStore caps.now }
 {
     match caps.get(key) {

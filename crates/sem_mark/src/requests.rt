@@ -4,7 +4,7 @@ ghost use Rattle.sem_key.specs.CapList.{cap_of, link_count};
 ghost use Rattle.sem_msg.specs.declared.message.Message.TheVariants.{RevokeDone, RevokeReq};
 ghost use Rattle.sem_msg.specs.declared.state.Up.TheVariants.{Remote};
 ghost use Rattle.sem_msg.specs.JobRows.{job_of};
-ghost use Rattle.sem_msg.specs.Lookups.{kernel_of as kernel_of_lem};
+ghost use Rattle.sem_msg.specs.Lookups.{kernel_of as kernel_of_spec};
 ghost use Rattle.sem_msg.specs.Outboxes.{HasBoxes};
 ghost use Rattle.sem_msg.specs.ParkedStates.{is_ready_with, state_of};
 ghost use Rattle.sem_vpe.specs.VpeTable.{AreOurs, IsOurs};
@@ -45,7 +45,7 @@ pub fn revoke_request(
     requires home { AreOurs setup.now kernel vpes.old }
     requires from { from < setup.now.kernels }
     requires ready { is_ready_with key (state_of park.old key.vpe) ≡ true →
-        kernel_of_lem setup.now key.vpe ≡ kernel }
+        kernel_of_spec setup.now key.vpe ≡ kernel }
     requires job { 0 < jobs.old.spare }
     requires ids { jobs.old.next < 4294967295 }
     requires boxes { HasBoxes setup.now outs.old }

@@ -1,7 +1,7 @@
 // What memory holds, told entry by entry.
 ghost use Rattle.std.specs.Prelude.{◌≡◌, ◌++◌, ◌∷◌, [], OnOk};
 ghost use Rattle.sem_machine.specs.Schedules.{IsSchedule};
-ghost use Rattle.sem_access.specs.Transfers.{transfer_of as transfer_of_lem, access_by};
+ghost use Rattle.sem_access.specs.Transfers.{transfer_of as transfer_of_spec, access_by};
 ghost use Rattle.sem_mem.specs.Accounts.{IsAccount, IsAccountOf, IsAccountBefore};
 
 use crate::account::Account;
@@ -29,7 +29,7 @@ impl Account {
     pub fn before(&mut self, world: &World, place: u64, entry: &Entry)
         ensures { self.new ≡ record self.old {
           next
-              = access_by world.now.setup world.now.world place (transfer_of_lem entry.now);
+              = access_by world.now.setup world.now.world place (transfer_of_spec entry.now);
         } }
     {
         self.next = access_at(world, place, entry);

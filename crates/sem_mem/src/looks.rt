@@ -1,10 +1,10 @@
 // What runs tell of a range of addresses.
 ghost use Rattle.std.specs.Prelude.{◌≡◌, ◌+◌, ◌≤◌, ℕ, Option};
 ghost use Rattle.sem_key.specs.declared.limits.TheConstants.{ADDRESSES};
-ghost use Rattle.sem_access.specs.LastWrites.{greater as greater_lem, looked};
+ghost use Rattle.sem_access.specs.LastWrites.{greater as greater_spec, looked};
 ghost use Rattle.sem_access.specs.Runs.{IsValidRun, AreRuns, entry_at};
-ghost use Rattle.sem_mem.specs.Writing.{shared as shared_lem, with_run as with_run_lem};
-ghost use Rattle.sem_mem.specs.Writing.{both as both_lem};
+ghost use Rattle.sem_mem.specs.Writing.{shared as shared_spec, with_run as with_run_spec};
+ghost use Rattle.sem_mem.specs.Writing.{both as both_spec};
 ghost use Rattle.sem_mem.specs.Chunks.{together, AreChunks};
 
 use crate::runs::met_by;
@@ -39,7 +39,7 @@ fn look_into(runs: &[Run], base: u64, len: u32) -> Look
 // What some runs tell, and what others tell that share no address with them.
 fn both(some: Look, more: Look) -> Look
     requires { some.written + more.written ≤ ADDRESSES }
-    ensures { result ≡ both_lem some more }
+    ensures { result ≡ both_spec some more }
 {
     Look {
         written: some.written + more.written,
@@ -70,8 +70,8 @@ fn look_in(runs: &[Run], base: u64, len: u32) -> Look
 // What was found, and what the run tells besides.
 fn with_run(found: Look, run: &Run, from: u64, end: u64) -> Look
     requires run { IsValidRun run.now }
-    requires few { found.written + shared_lem from end run.now ≤ ADDRESSES }
-    ensures { result ≡ with_run_lem from end found run.now }
+    requires few { found.written + shared_spec from end run.now ≤ ADDRESSES }
+    ensures { result ≡ with_run_spec from end found run.now }
 {
     let shared = shared(run, from, end);
     if shared == 0 {
@@ -87,7 +87,7 @@ fn with_run(found: Look, run: &Run, from: u64, end: u64) -> Look
 // How many addresses of the run lie from one address on and below another.
 fn shared(run: &Run, from: u64, end: u64) -> u64
     requires { IsValidRun run.now }
-    ensures { result ≡ shared_lem from end run.now }
+    ensures { result ≡ shared_spec from end run.now }
 {
     end.min(run.base + run.len)
         .saturating_sub(run.base.max(from))
@@ -95,7 +95,7 @@ fn shared(run: &Run, from: u64, end: u64) -> u64
 
 // The greater of the entry and an optional one.
 fn greater(entry: u64, newest: Option<u64>) -> u64
-    ensures { Some result ≡ greater_lem entry newest }
+    ensures { Some result ≡ greater_spec entry newest }
 {
     match newest {
         Some(other) => entry.max(other),

@@ -3,7 +3,8 @@ ghost use Rattle.std.specs.Prelude.{◌≡◌, ◌++◌, filter_map, OnOk};
 ghost use Rattle.std.specs.Option.{option_to_list};
 ghost use Rattle.sem_access.specs.Runs.{IsValidRun, AreRuns};
 ghost use Rattle.sem_mem.specs.Chunks.{together, AreChunks};
-ghost use Rattle.sem_mem.specs.Writing.{lower_part as lower_part_lem, upper_part as upper_part_lem};
+ghost use Rattle.sem_mem.specs.Writing.{lower_part as lower_part_spec};
+ghost use Rattle.sem_mem.specs.Writing.{upper_part as upper_part_spec};
 
 use crate::runs::count_ended;
 use sem_access::Run;
@@ -17,7 +18,7 @@ pub fn push_lower_parts(
 ) -> Result<(), OutOfMemory>
     requires { AreChunks chunks.now }
     ensures { OnOk result (out.new.items ≡ out.old.items
-        ++ filter_map (lower_part_lem end) (together chunks.now)) }
+        ++ filter_map (lower_part_spec end) (together chunks.now)) }
 {
     for chunk in chunks {
         push_lower(out, chunk, end)?;
@@ -33,7 +34,7 @@ pub fn push_upper_parts(
 ) -> Result<(), OutOfMemory>
     requires { AreChunks chunks.now }
     ensures { OnOk result (out.new.items ≡ out.old.items
-        ++ filter_map (upper_part_lem from) (together chunks.now)) }
+        ++ filter_map (upper_part_spec from) (together chunks.now)) }
 {
     for chunk in chunks {
         push_upper(out, chunk, from)?;
@@ -46,7 +47,7 @@ pub fn push_upper_parts(
 fn push_lower(out: &mut Vec<Run>, runs: &[Run], end: u64) -> Result<(), OutOfMemory>
     requires { AreRuns runs.now }
     ensures { OnOk result (out.new.items ≡ out.old.items
-        ++ filter_map (lower_part_lem end) runs.now) }
+        ++ filter_map (lower_part_spec end) runs.now) }
 {
     let whole = count_ended(runs, end);
     out.extend_from_slice(&runs[..whole])?;
@@ -61,7 +62,7 @@ fn push_lower(out: &mut Vec<Run>, runs: &[Run], end: u64) -> Result<(), OutOfMem
 fn push_upper(out: &mut Vec<Run>, runs: &[Run], from: u64) -> Result<(), OutOfMemory>
     requires { AreRuns runs.now }
     ensures { OnOk result (out.new.items ≡ out.old.items
-        ++ filter_map (upper_part_lem from) runs.now) }
+        ++ filter_map (upper_part_spec from) runs.now) }
 {
     let ended = count_ended(runs, from);
     match runs.get(ended) {
@@ -86,7 +87,7 @@ fn push_part(out: &mut Vec<Run>, part: Option<Run>) -> Result<(), OutOfMemory>
 // The part of the run that lies below the address.
 fn lower_part(run: &Run, end: u64) -> Option<Run>
     requires { IsValidRun run.now }
-    ensures { result ≡ lower_part_lem end run.now }
+    ensures { result ≡ lower_part_spec end run.now }
 {
     if run.base < end {
         Some(Run {
@@ -102,7 +103,7 @@ fn lower_part(run: &Run, end: u64) -> Option<Run>
 // The part of the run that lies from the address on.
 fn upper_part(run: &Run, from: u64) -> Option<Run>
     requires { IsValidRun run.now }
-    ensures { result ≡ upper_part_lem from run.now }
+    ensures { result ≡ upper_part_spec from run.now }
 {
     let end = run.base + run.len;
     if from < end {

@@ -2,8 +2,8 @@
 ghost use Rattle.std.specs.Prelude.{◌≡◌, ◌++◌, IfOk, OnOk};
 ghost use Rattle.std.specs.Option.{option_to_list};
 ghost use Rattle.sem_machine.specs.Schedules.{IsSchedule};
-ghost use Rattle.sem_access.specs.Accesses.{accesses as accesses_lem};
-ghost use Rattle.sem_access.specs.Transfers.{transfer_of as transfer_of_lem, access_by};
+ghost use Rattle.sem_access.specs.Accesses.{accesses as accesses_spec};
+ghost use Rattle.sem_access.specs.Transfers.{transfer_of as transfer_of_spec, access_by};
 
 use sem_access::{Access, AccessList, transfer_of};
 use sem_kernel::World;
@@ -15,7 +15,7 @@ use std::alloc::Global;
 /// events once more.
 pub fn accesses(alloc: Global, setup: &Setup, journal: &Journal) -> Result<AccessList, OutOfMemory>
     requires { IsSchedule setup.now journal.now.entries }
-    ensures { IfOk result (λ list. list ≡ accesses_lem setup.now journal.now.entries) }
+    ensures { IfOk result (λ list. list ≡ accesses_spec setup.now journal.now.entries) }
 {
     // Shows the proof what a setup keeps.
     let _ = &setup.vpes;
@@ -36,7 +36,7 @@ fn push_access(
     entry: &Entry,
 ) -> Result<(), OutOfMemory>
     ensures { OnOk result (found.new ≡ found.old ++ option_to_list
-        (access_by world.now.setup world.now.world place (transfer_of_lem entry.now))) }
+        (access_by world.now.setup world.now.world place (transfer_of_spec entry.now))) }
 {
     if let Some(access) = access_at(world, place, entry) {
         found.push(access)?;
@@ -47,7 +47,7 @@ fn push_access(
 /// What the entry at that place reads or writes in the world before it, if anything.
 pub fn access_at(world: &World, place: u64, entry: &Entry) -> Option<Access>
     ensures { result
-        ≡ access_by world.now.setup world.now.world place (transfer_of_lem entry.now) }
+        ≡ access_by world.now.setup world.now.world place (transfer_of_spec entry.now) }
 {
     let transfer = transfer_of(entry)?;
     match world.binding(transfer.vpe, transfer.ep) {

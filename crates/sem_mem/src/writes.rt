@@ -2,9 +2,9 @@
 ghost use Rattle.std.specs.Prelude.{◌≡◌, ◌+◌, ◌*◌, ◌<◌, ◌≤◌, ◌++◌, length, take, drop, All};
 ghost use Rattle.std.specs.Prelude.{OnOk, OnErr, IfOk};
 ghost use Rattle.sem_key.specs.declared.limits.TheConstants.{ADDRESSES};
-ghost use Rattle.sem_mem.specs.declared.chunks.TheConstants.{CHUNK as CHUNK_LEM};
-ghost use Rattle.sem_mem.specs.declared.writes.TheConstants.{CUT as CUT_LEM};
-ghost use Rattle.sem_mem.specs.Writing.{overwritten as overwritten_lem};
+ghost use Rattle.sem_mem.specs.declared.chunks.TheConstants.{CHUNK as CHUNK_SPEC};
+ghost use Rattle.sem_mem.specs.declared.writes.TheConstants.{CUT as CUT_SPEC};
+ghost use Rattle.sem_mem.specs.Writing.{overwritten as overwritten_spec};
 ghost use Rattle.sem_mem.specs.Chunks.{together, AreChunks, AreIndexed, HasRun, IsSized};
 ghost use Rattle.sem_mem.specs.Chunks.{beginnings_of};
 
@@ -32,7 +32,7 @@ pub fn overwrite(
     requires range { base + len ≤ ADDRESSES }
     requires indexed { AreIndexed chunks.old.items beginnings.old.items }
     ensures ok { OnOk result (together chunks.new.items
-        ≡ overwritten_lem (together chunks.old.items) base len entry) }
+        ≡ overwritten_spec (together chunks.old.items) base len entry) }
     ensures sized { OnOk result (All IsSized chunks.new.items) }
     ensures begin { OnOk result (beginnings.new.items ≡ beginnings_of chunks.new.items) }
     ensures err { OnErr result (chunks.new.items ≡ chunks.old.items) }
@@ -56,7 +56,7 @@ fn push_overwritten(
     requires range { base + len ≤ ADDRESSES }
     requires chunks { AreChunks chunks.now }
     ensures { OnOk result (out.new.items
-        ≡ out.old.items ++ overwritten_lem (together chunks.now) base len entry) }
+        ≡ out.old.items ++ overwritten_spec (together chunks.now) base len entry) }
 {
     let written = Run {
         base,
@@ -124,8 +124,8 @@ fn split(
     requires within { from < length chunks.old.items }
     requires each { All IsSized chunks.old.items }
     requires begin { beginnings.old.items ≡ beginnings_of chunks.old.items }
-    requires many { CHUNK_LEM < length runs.old.items }
-    requires few { length runs.old.items ≤ CUT_LEM + CHUNK_LEM }
+    requires many { CHUNK_SPEC < length runs.old.items }
+    requires few { length runs.old.items ≤ CUT_SPEC + CHUNK_SPEC }
     ensures ok { OnOk result (together chunks.new.items
         ≡ together (take from chunks.old.items)
         ++ (runs.old.items ++ together (drop (from + 1) chunks.old.items))) }
@@ -156,7 +156,7 @@ fn replace_two(
     requires each { All IsSized chunks.old.items }
     requires begin { beginnings.old.items ≡ beginnings_of chunks.old.items }
     requires some { 2 ≤ length runs.old.items }
-    requires few { length runs.old.items ≤ 2 * CHUNK_LEM }
+    requires few { length runs.old.items ≤ 2 * CHUNK_SPEC }
     ensures ok { OnOk result (together chunks.new.items
         ≡ together (take from chunks.old.items)
         ++ (runs.old.items ++ together (drop (from + 2) chunks.old.items))) }

@@ -1,6 +1,6 @@
 ghost use Rattle.std.specs.Prelude.{◌≡◌};
-ghost use Rattle.sem_msg.specs.Act.{number_of, only_moves as only_moves_lem};
-ghost use Rattle.sem_msg.specs.Act.{replied_vpe as replied_vpe_lem};
+ghost use Rattle.sem_msg.specs.Act.{number_of, only_moves as only_moves_spec};
+ghost use Rattle.sem_msg.specs.Act.{replied_vpe as replied_vpe_spec};
 
 /// What one kernel does in one atomic step.
 #[derive(Clone, Copy, Debug, PartialEq, Eq)]
@@ -31,7 +31,7 @@ pub struct Event {
 impl Act {
     /// The VPE whose call the act can answer; 0 for an act that answers no call.
     pub fn replied_vpe(self) -> u16
-        ensures { result ≡ replied_vpe_lem self }
+        ensures { result ≡ replied_vpe_spec self }
     {
         match self {
             Act::Call { vpe } | Act::Resume { vpe } => vpe,
@@ -41,7 +41,7 @@ impl Act {
 
     /// Whether the act only moves a message: a fetch or a flush.
     pub fn only_moves(self) -> bool
-        ensures { result ≡ only_moves_lem self }
+        ensures { result ≡ only_moves_spec self }
     {
         matches!(self, Act::Fetch { .. } | Act::Flush { .. })
     }

@@ -2,18 +2,19 @@ ghost use Rattle.std.specs.Prelude.{◌≡◌, ◌<◌, true, option_copied, IfS
 ghost use Rattle.sem_key.specs.declared.limits.TheConstants.{VPES};
 ghost use Rattle.std.specs.List.{Contains};
 ghost use Rattle.sem_msg.specs.Setup.{IsVpeDecl};
-ghost use Rattle.sem_msg.specs.Fabric.{is_due as is_due_lem};
-ghost use Rattle.sem_msg.specs.Journal.{kill_number as kill_number_lem};
-ghost use Rattle.sem_msg.specs.Lookups.{decl as decl_lem, own_decl as own_decl_lem};
-ghost use Rattle.sem_msg.specs.Lookups.{is_own as is_own_lem, is_declared as is_declared_lem};
-ghost use Rattle.sem_msg.specs.Lookups.{is_declared_at as is_declared_at_lem, denies as denies_lem};
-ghost use Rattle.sem_msg.specs.Lookups.{pe_of as pe_of_lem, pe_owner as pe_owner_lem};
-ghost use Rattle.sem_msg.specs.Lookups.{owner_of as owner_of_lem, place_owner as place_owner_lem};
-ghost use Rattle.sem_msg.specs.Lookups.{kernel_of as kernel_of_lem, IsPlaced};
-ghost use Rattle.sem_msg.specs.Lookups.{is_key_declared as is_key_declared_lem};
-ghost use Rattle.sem_msg.specs.Lookups.{is_target_declared as is_target_declared_lem};
-ghost use Rattle.sem_msg.specs.Lookups.{is_object_declared as is_object_declared_lem};
-ghost use Rattle.sem_msg.specs.Lookups.{is_other_kernel as is_other_kernel_lem};
+ghost use Rattle.sem_msg.specs.Fabric.{is_due as is_due_spec};
+ghost use Rattle.sem_msg.specs.Journal.{kill_number as kill_number_spec};
+ghost use Rattle.sem_msg.specs.Lookups.{decl as decl_spec, own_decl as own_decl_spec};
+ghost use Rattle.sem_msg.specs.Lookups.{is_own as is_own_spec, is_declared as is_declared_spec};
+ghost use Rattle.sem_msg.specs.Lookups.{is_declared_at as is_declared_at_spec};
+ghost use Rattle.sem_msg.specs.Lookups.{denies as denies_spec};
+ghost use Rattle.sem_msg.specs.Lookups.{pe_of as pe_of_spec, pe_owner as pe_owner_spec};
+ghost use Rattle.sem_msg.specs.Lookups.{owner_of as owner_of_spec, place_owner as place_owner_spec};
+ghost use Rattle.sem_msg.specs.Lookups.{kernel_of as kernel_of_spec, IsPlaced};
+ghost use Rattle.sem_msg.specs.Lookups.{is_key_declared as is_key_declared_spec};
+ghost use Rattle.sem_msg.specs.Lookups.{is_target_declared as is_target_declared_spec};
+ghost use Rattle.sem_msg.specs.Lookups.{is_object_declared as is_object_declared_spec};
+ghost use Rattle.sem_msg.specs.Lookups.{is_other_kernel as is_other_kernel_spec};
 
 use crate::message::Target;
 use crate::setup::{Setup, VpeDecl};
@@ -22,7 +23,7 @@ use sem_key::{Key, Object, PES, Place};
 impl Setup {
     /// The declaration of a VPE; none if it is not declared.
     pub fn decl(&self, vpe: u16) -> Option<&VpeDecl>
-        ensures decl { option_copied result ≡ decl_lem self.now vpe }
+        ensures decl { option_copied result ≡ decl_spec self.now vpe }
         ensures valid { IfSome (option_copied result) (IsVpeDecl self.now) }
     {
         let decls = self.vpes.as_slice();
@@ -37,7 +38,7 @@ impl Setup {
 
     /// The declaration of a VPE of that kernel; none if the kernel has no such VPE.
     pub fn own_decl(&self, kernel: u32, vpe: u16) -> Option<&VpeDecl>
-        ensures decl { option_copied result ≡ own_decl_lem self.now kernel vpe }
+        ensures decl { option_copied result ≡ own_decl_spec self.now kernel vpe }
         ensures valid { IfSome (option_copied result) (IsVpeDecl self.now) }
     {
         self.decl(vpe)
@@ -46,50 +47,50 @@ impl Setup {
 
     /// Whether the VPE is one of that kernel.
     pub fn is_own(&self, kernel: u32, vpe: u16) -> bool
-        ensures { result ≡ is_own_lem self.now kernel vpe }
+        ensures { result ≡ is_own_spec self.now kernel vpe }
     {
         self.own_decl(kernel, vpe).is_some()
     }
 
     /// Whether the VPE is declared.
     pub fn is_declared(&self, vpe: u16) -> bool
-        ensures { result ≡ is_declared_lem self.now vpe }
+        ensures { result ≡ is_declared_spec self.now vpe }
     {
         self.vpes.as_slice().iter().any(|decl| decl.vpe == vpe)
     }
 
     /// The PE of a VPE; 128, which is no PE, if the VPE is not declared.
     pub fn pe_of(&self, vpe: u16) -> u8
-        ensures pe { result ≡ pe_of_lem self.now vpe }
-        ensures placed { is_declared_lem self.now vpe ≡ true → IsPlaced self.now vpe }
+        ensures pe { result ≡ pe_of_spec self.now vpe }
+        ensures placed { is_declared_spec self.now vpe ≡ true → IsPlaced self.now vpe }
     {
         self.decl(vpe).map_or(PES as u8, |decl| decl.pe)
     }
 
     /// The kernel that owns a PE; if none does, the number of kernels, which is no kernel.
     pub fn pe_owner(&self, pe: u8) -> u32
-        ensures { result ≡ pe_owner_lem self.now pe }
+        ensures { result ≡ pe_owner_spec self.now pe }
     {
         self.owners.owner(pe).unwrap_or(self.kernels)
     }
 
     /// The kernel that owns a key; if none does, the number of kernels, which is no kernel.
     pub fn owner_of(&self, key: Key) -> u32
-        ensures { result ≡ owner_of_lem self.now key }
+        ensures { result ≡ owner_of_spec self.now key }
     {
         self.pe_owner(key.pe)
     }
 
     /// The kernel that owns a place; if none does, the number of kernels, which is no kernel.
     pub fn place_owner(&self, place: Place) -> u32
-        ensures { result ≡ place_owner_lem self.now place }
+        ensures { result ≡ place_owner_spec self.now place }
     {
         self.pe_owner(place.pe)
     }
 
     /// The kernel of a VPE; if it is not declared, the number of kernels, which is no kernel.
     pub fn kernel_of(&self, vpe: u16) -> u32
-        ensures { result ≡ kernel_of_lem self.now vpe }
+        ensures { result ≡ kernel_of_spec self.now vpe }
     {
         match self.decl(vpe) {
             Some(decl) => self.pe_owner(decl.pe),
@@ -99,8 +100,8 @@ impl Setup {
 
     /// The kernel of a declared VPE.
     pub fn declared_kernel(&self, vpe: u16) -> u32
-        requires { is_declared_lem self.now vpe ≡ true }
-        ensures kernel { result ≡ kernel_of_lem self.now vpe }
+        requires { is_declared_spec self.now vpe ≡ true }
+        ensures kernel { result ≡ kernel_of_spec self.now vpe }
         ensures below { result < self.now.kernels }
         ensures vpe { vpe < VPES }
     {
@@ -113,7 +114,7 @@ impl Setup {
 
     /// Whether the VPE is declared on that PE.
     pub fn is_declared_at(&self, pe: u8, vpe: u16) -> bool
-        ensures { result ≡ is_declared_at_lem self.now pe vpe }
+        ensures { result ≡ is_declared_at_spec self.now pe vpe }
     {
         match self.decl(vpe) {
             Some(decl) => decl.pe == pe,
@@ -123,14 +124,14 @@ impl Setup {
 
     /// Whether the VPE of the key is declared on the PE of the key.
     pub fn is_key_declared(&self, key: &Key) -> bool
-        ensures { result ≡ is_key_declared_lem self.now key.now }
+        ensures { result ≡ is_key_declared_spec self.now key.now }
     {
         self.is_declared_at(key.pe, key.vpe)
     }
 
     /// Whether the service that the target names is declared; true if it names none.
     pub fn is_target_declared(&self, target: &Target) -> bool
-        ensures { result ≡ is_target_declared_lem self.now target.now }
+        ensures { result ≡ is_target_declared_spec self.now target.now }
     {
         match target {
             Target::Sel { .. } => true,
@@ -142,7 +143,7 @@ impl Setup {
 
     /// Whether the gate or the service that the object names is declared; true if it names none.
     pub fn is_object_declared(&self, object: &Object) -> bool
-        ensures { result ≡ is_object_declared_lem self.now object.now }
+        ensures { result ≡ is_object_declared_spec self.now object.now }
     {
         match object {
             Object::Mem { .. } | Object::Recv { .. } | Object::Serv { .. } => true,
@@ -153,14 +154,14 @@ impl Setup {
 
     /// Whether the other kernel is one of the setup, and not that kernel.
     pub fn is_other_kernel(&self, kernel: u32, other: u32) -> bool
-        ensures { result ≡ is_other_kernel_lem self.now kernel other }
+        ensures { result ≡ is_other_kernel_spec self.now kernel other }
     {
         other < self.kernels && other != kernel
     }
 
     /// After how many replies the VPE is killed; none if it never is.
     pub fn kill_number(&self, vpe: u16) -> Option<u64>
-        ensures { result ≡ kill_number_lem self.now vpe }
+        ensures { result ≡ kill_number_spec self.now vpe }
     {
         let kill = self.kills.as_slice().iter().find(|kill| kill.0 == vpe)?;
         Some(kill.1)
@@ -168,7 +169,7 @@ impl Setup {
 
     /// Whether the VPE is due to be killed after that many replies.
     pub fn is_due(&self, replies: u64, vpe: u16) -> bool
-        ensures { result ≡ is_due_lem self.now replies vpe }
+        ensures { result ≡ is_due_spec self.now replies vpe }
     {
         match self.kill_number(vpe) {
             Some(number) => number <= replies,
@@ -178,7 +179,7 @@ impl Setup {
 
     /// Whether the VPE denies what the asker asks.
     pub fn denies(&self, vpe: u16, asker: u16) -> bool
-        ensures { result ≡ denies_lem self.now vpe asker }
+        ensures { result ≡ denies_spec self.now vpe asker }
     {
         self.denies
             .as_slice()

@@ -7,7 +7,7 @@ ghost use Rattle.std.specs.List.Sorted.{IsPermutation, IsNonDecreasingBy};
 ghost use Rattle.sem_msg.specs.Setup.{IsSetup};
 ghost use Rattle.sem_machine.specs.Schedules.{IsSchedule, world_after};
 ghost use Rattle.sem_fabric.specs.Fabrics.{new_fabric};
-ghost use Rattle.sem_kernel.specs.Worlds.{world_of, AreKernelsOf, booted as booted_lem};
+ghost use Rattle.sem_kernel.specs.Worlds.{world_of, AreKernelsOf, booted as booted_spec};
 ghost use Rattle.sem_kernel.specs.Owning.{own_rows};
 ghost use Rattle.sem_parts.specs.SidesAfter.{AreSidesAfter};
 ghost use Rattle.sem_node.specs.Running.{HasRun};
@@ -203,7 +203,7 @@ fn run_named<N: RunName + Send + Sync, R: Threads + Wait + Sync, G: Gate + Sync>
     requires named { (opened.table ≡ N.table) × (opened.setup ≡ N.setup) }
     requires setup { opened.setup ≡ setup.now }
     requires booted { kernels.items
-        ≡ map (booted_lem setup.now) (range_with_len 0 setup.now.kernels) }
+        ≡ map (booted_spec setup.now) (range_with_len 0 setup.now.kernels) }
     ensures { IfOk result (λ r. HaveRun setup.now r.0.items r.1) }
 {
     // Shows the proof what a setup keeps.
@@ -234,7 +234,7 @@ pub fn run_threads<R: Threads + Wait + Sync, G: Gate + Sync>(
     gate: &G,
 ) -> Result<(Vec<Kernel>, Fabric), OutOfMemory>
     requires kernels { kernels.items
-        ≡ map (booted_lem setup.now) (range_with_len 0 setup.now.kernels) }
+        ≡ map (booted_spec setup.now) (range_with_len 0 setup.now.kernels) }
     requires fabric { fabric ≡ new_fabric setup.now }
     ensures together { IfOk result (λ r. AreKernelsOf setup.now r.0.items r.1) }
     ensures schedule { IfOk result (λ r. IsSchedule setup.now r.1.journal) }

@@ -1,12 +1,12 @@
 ghost use Rattle.std.specs.Prelude.{◌≡◌, ◌≢◌, ℕ, ◌<◌, ◌≤◌, ◌+◌};
 ghost use Rattle.sem_msg.specs.declared.message.Message.TheVariants.{ObtainNo, ObtainOk, ObtainReq};
 ghost use Rattle.sem_msg.specs.declared.message.Message.TheVariants.{Orphan};
-ghost use Rattle.sem_msg.specs.Lookups.{kernel_of as kernel_of_lem, owner_of as owner_of_lem};
-ghost use Rattle.sem_msg.specs.Lookups.{place_owner as place_owner_lem};
+ghost use Rattle.sem_msg.specs.Lookups.{kernel_of as kernel_of_spec, owner_of as owner_of_spec};
+ghost use Rattle.sem_msg.specs.Lookups.{place_owner as place_owner_spec};
 ghost use Rattle.sem_msg.specs.Message.{Fits};
 ghost use Rattle.sem_msg.specs.Outboxes.{HasBoxes};
 ghost use Rattle.sem_vpe.specs.VpeTable.{AreOurs};
-ghost use Rattle.sem_machine.specs.Asks.{target_vpe as target_vpe_lem};
+ghost use Rattle.sem_machine.specs.Asks.{target_vpe as target_vpe_spec};
 ghost use Rattle.sem_machine.specs.Sides.{Side};
 ghost use Rattle.sem_machine.specs.Handles.{handle_row};
 ghost use Rattle.sem_machine.specs.Stores.{with_outs, with_parks, with_vpes, with_vpes_parks_outs};
@@ -39,8 +39,8 @@ pub fn obtain_answer(
     outs: &mut Outboxes,
 )
     requires home { AreOurs setup.now kernel vpes.now }
-    requires vpe { kernel_of_lem setup.now key.vpe ≡ kernel }
-    requires owner { owner_of_lem setup.now parent < setup.now.kernels }
+    requires vpe { kernel_of_spec setup.now key.vpe ≡ kernel }
+    requires owner { owner_of_spec setup.now parent < setup.now.kernels }
     requires boxes { HasBoxes setup.now outs.old }
     requires spare { 0 < outs.old.spare }
     ensures row { (from : ℕ) (s : Side) →
@@ -76,7 +76,7 @@ pub fn obtain_refused(
     park: &mut Park,
 )
     requires home { AreOurs setup.now kernel vpes.old }
-    requires vpe { kernel_of_lem setup.now place.vpe ≡ kernel }
+    requires vpe { kernel_of_spec setup.now place.vpe ≡ kernel }
     ensures row { (from : ℕ) (s : Side) →
         with_vpes vpes.new.rows (with_parks park.new s)
         ≡ handle_row setup.now kernel (with_vpes vpes.old.rows (with_parks park.old s)) from
@@ -100,9 +100,9 @@ pub fn obtain_request(
     outs: &mut Outboxes,
 )
     requires home { AreOurs setup.now kernel vpes.old }
-    requires vpe { kernel_of_lem setup.now (target_vpe_lem target) ≡ kernel }
-    requires other { kernel_of_lem setup.now place.vpe ≢ kernel }
-    requires owner { place_owner_lem setup.now place < setup.now.kernels }
+    requires vpe { kernel_of_spec setup.now (target_vpe_spec target) ≡ kernel }
+    requires other { kernel_of_spec setup.now place.vpe ≢ kernel }
+    requires owner { place_owner_spec setup.now place < setup.now.kernels }
     requires boxes { HasBoxes setup.now outs.old }
     requires spare { 0 < outs.old.spare }
     ensures row { (from : ℕ) (s : Side) →

@@ -1,10 +1,10 @@
 ghost use Rattle.std.specs.Prelude.{◌≡◌, ◌<◌, ◌≤◌, ◌+◌, true, None};
 ghost use Rattle.sem_msg.specs.declared.message.Message.TheVariants.{ObtainReq};
-ghost use Rattle.sem_msg.specs.Lookups.{is_declared, kernel_of as kernel_of_lem};
+ghost use Rattle.sem_msg.specs.Lookups.{is_declared, kernel_of as kernel_of_spec};
 ghost use Rattle.sem_msg.specs.Message.{Fits, IsValidTarget};
 ghost use Rattle.sem_msg.specs.Outboxes.{HasBoxes};
 ghost use Rattle.sem_vpe.specs.VpeTable.{AreOurs};
-ghost use Rattle.sem_machine.specs.Asks.{target_vpe as target_vpe_lem};
+ghost use Rattle.sem_machine.specs.Asks.{target_vpe as target_vpe_spec};
 ghost use Rattle.sem_machine.specs.Sides.{Side, no_side};
 ghost use Rattle.sem_machine.specs.Steps.{first_code, plain};
 ghost use Rattle.sem_machine.specs.Calls.{ask_made, destination_tests};
@@ -37,9 +37,9 @@ pub fn make_ask(
     outs: &mut Outboxes,
 )
     requires home { AreOurs setup.now kernel vpes.old }
-    requires vpe { kernel_of_lem setup.now vpe ≡ kernel }
+    requires vpe { kernel_of_spec setup.now vpe ≡ kernel }
     requires declared { is_declared setup.now vpe ≡ true }
-    requires other { other ≡ target_vpe_lem target }
+    requires other { other ≡ target_vpe_spec target }
     requires asked { is_declared setup.now other ≡ true }
     requires target { IsValidTarget target }
     requires free { first_code (destination_tests (with_vpes vpes.old.rows no_side) vpe dst)

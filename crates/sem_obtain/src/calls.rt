@@ -1,5 +1,5 @@
 ghost use Rattle.std.specs.Prelude.{◌≡◌, ◌<◌, ◌≤◌, ◌+◌, true, IfSome};
-ghost use Rattle.sem_msg.specs.Lookups.{is_declared, kernel_of as kernel_of_lem};
+ghost use Rattle.sem_msg.specs.Lookups.{is_declared, kernel_of as kernel_of_spec};
 ghost use Rattle.sem_msg.specs.declared.message.Target.TheVariants.{Offer as OfferTarget};
 ghost use Rattle.sem_msg.specs.declared.message.Target.TheVariants.{Sel as SelTarget};
 ghost use Rattle.sem_msg.specs.declared.message.Target.TheVariants.{Serv as ServTarget};
@@ -35,7 +35,7 @@ pub fn obtain_call(
     outs: &mut Outboxes,
 ) -> Outcome
     requires home { AreOurs setup.now kernel vpes.old }
-    requires vpe { kernel_of_lem setup.now vpe ≡ kernel }
+    requires vpe { kernel_of_spec setup.now vpe ≡ kernel }
     requires declared { is_declared setup.now vpe ≡ true }
     requires boxes { HasBoxes setup.now outs.old }
     requires spare { 0 < outs.old.spare }
@@ -81,7 +81,7 @@ pub fn open_call(
     outs: &mut Outboxes,
 ) -> Outcome
     requires home { AreOurs setup.now kernel vpes.old }
-    requires vpe { kernel_of_lem setup.now vpe ≡ kernel }
+    requires vpe { kernel_of_spec setup.now vpe ≡ kernel }
     requires declared { is_declared setup.now vpe ≡ true }
     requires boxes { HasBoxes setup.now outs.old }
     requires spare { 0 < outs.old.spare }
@@ -132,7 +132,7 @@ pub fn offer_call(
     outs: &mut Outboxes,
 ) -> Outcome
     requires home { AreOurs setup.now kernel vpes.old }
-    requires vpe { kernel_of_lem setup.now vpe ≡ kernel }
+    requires vpe { kernel_of_spec setup.now vpe ≡ kernel }
     requires declared { is_declared setup.now vpe ≡ true }
     requires session { IfSome (own (owning caps.now.caps vpes.old.rows no_side) vpe session)
         (λ c. IsSoundObject setup.now c.object) }

@@ -4,7 +4,7 @@ ghost use Rattle.sem_msg.specs.declared.message.Message.TheVariants.{ObtainNo};
 ghost use Rattle.sem_msg.specs.declared.message.Target.{Target};
 ghost use Rattle.sem_msg.specs.declared.state.Ask.TheVariants.{Obtain as ObtainAsk};
 ghost use Rattle.sem_msg.specs.Codes.{code_number};
-ghost use Rattle.sem_msg.specs.Lookups.{place_owner as place_owner_lem};
+ghost use Rattle.sem_msg.specs.Lookups.{place_owner as place_owner_spec};
 ghost use Rattle.sem_msg.specs.Message.{Fits, IsRefusal};
 ghost use Rattle.sem_msg.specs.Outboxes.{box_for, with_box, HasBoxes};
 ghost use Rattle.sem_vpe.specs.VpeTable.{AreOurs, IsOurs};
@@ -32,10 +32,10 @@ fn refusal(place: Place, code: Code) -> Message
 // Tells the kernel of the asker that its asking call is refused.
 pub fn send_refusal(setup: &Setup, place: Place, code: Code, outs: &mut Outboxes)
     requires refusal { IsRefusal (code_number code) }
-    requires owner { place_owner_lem setup.now place < setup.now.kernels }
+    requires owner { place_owner_spec setup.now place < setup.now.kernels }
     requires boxes { HasBoxes setup.now outs.old }
     requires spare { 0 < outs.old.spare }
-    ensures sent { let to = place_owner_lem setup.now place in
+    ensures sent { let to = place_owner_spec setup.now place in
         outs.new.boxes ≡ with_box outs.old.boxes to (box_for outs.old.boxes to
         ++ ObtainNo place (code_number code) ∷ []) }
     ensures boxes { HasBoxes setup.now outs.new }
@@ -72,7 +72,7 @@ pub fn refuse_ask(
 )
     requires home { AreOurs setup.now kernel vpes.old }
     requires refusal { IsRefusal (code_number code) }
-    requires owner { place_owner_lem setup.now place < setup.now.kernels }
+    requires owner { place_owner_spec setup.now place < setup.now.kernels }
     requires boxes { HasBoxes setup.now outs.old }
     requires spare { 0 < outs.old.spare }
     ensures row { (target : Target) (s : Side) →

@@ -3,12 +3,13 @@ ghost use Rattle.std.specs.Option.{option_and_then, option_map};
 ghost use Rattle.sem_key.specs.KeyName.{key_eq};
 ghost use Rattle.sem_key.specs.Capability.{capability_of};
 ghost use Rattle.sem_key.specs.declared.key.Kind.TheVariants.{Serv as ServKind};
-ghost use Rattle.sem_msg.specs.Lookups.{is_declared, offer_named as offer_named_lem};
-ghost use Rattle.sem_msg.specs.Lookups.{offered as offered_lem, service_named as service_named_lem};
+ghost use Rattle.sem_msg.specs.Lookups.{is_declared, offer_named as offer_named_spec};
+ghost use Rattle.sem_msg.specs.Lookups.{offered as offered_spec};
+ghost use Rattle.sem_msg.specs.Lookups.{service_named as service_named_spec};
 ghost use Rattle.sem_vpe.specs.VpeTable.{IsOurs};
 ghost use Rattle.sem_machine.specs.Sides.{no_side, own};
-ghost use Rattle.sem_machine.specs.Calls.{session_service as session_service_lem};
-ghost use Rattle.sem_machine.specs.Upcalls.{source as source_lem};
+ghost use Rattle.sem_machine.specs.Calls.{session_service as session_service_spec};
+ghost use Rattle.sem_machine.specs.Upcalls.{source as source_spec};
 ghost use Rattle.sem_machine.specs.Stores.{owning};
 
 use sem_caps::Caps;
@@ -17,7 +18,7 @@ use sem_msg::{Service, Setup, Target};
 use sem_vpe::Vpes;
 
 fn service_named(setup: &Setup, name: u8) -> Option<&Service>
-    ensures { option_copied result ≡ service_named_lem setup.now name }
+    ensures { option_copied result ≡ service_named_spec setup.now name }
 {
     setup
         .services
@@ -28,7 +29,7 @@ fn service_named(setup: &Setup, name: u8) -> Option<&Service>
 
 // The key of the service of that name. The VPE of that key is declared.
 pub fn service_key(setup: &Setup, name: u8) -> Option<Key>
-    ensures key { result ≡ option_map (λ s. s.key) (service_named_lem setup.now name) }
+    ensures key { result ≡ option_map (λ s. s.key) (service_named_spec setup.now name) }
     ensures declared { IfSome result (λ k. (is_declared setup.now k.vpe ≡ true)
         × (k.kind ≡ ServKind)) }
 {
@@ -50,7 +51,7 @@ fn service_of(setup: &Setup, key: Key) -> Option<&Service>
 
 // The selector that a service of that name offers under an index.
 fn offer_named(setup: &Setup, index: u8, name: u8) -> Option<u8>
-    ensures { result ≡ offer_named_lem setup.now index name }
+    ensures { result ≡ offer_named_spec setup.now index name }
 {
     let mut offers = setup.offers.as_slice().iter();
     let offer = offers.find(|offer| offer.name == name && offer.index == index)?;
@@ -59,7 +60,7 @@ fn offer_named(setup: &Setup, index: u8, name: u8) -> Option<u8>
 
 // The selector that the service of that key offers under an index.
 fn offered(setup: &Setup, key: Key, index: u8) -> Option<u8>
-    ensures { result ≡ offered_lem setup.now key index }
+    ensures { result ≡ offered_spec setup.now key index }
 {
     let service = service_of(setup, key)?;
     offer_named(setup, index, service.name)
@@ -68,7 +69,7 @@ fn offered(setup: &Setup, key: Key, index: u8) -> Option<u8>
 // The service of the session at a selector of the VPE.
 pub fn session_service(caps: &Caps, vpes: &Vpes, vpe: u16, sel: u8) -> Option<Key>
     requires { IsOurs vpes.now vpe }
-    ensures { result ≡ option_and_then (λ c. session_service_lem c.object)
+    ensures { result ≡ option_and_then (λ c. session_service_spec c.object)
         (own (owning caps.now.caps vpes.now.rows no_side) vpe sel) }
 {
     match caps.get(vpes.held_key(vpe, sel)?)?.object {
@@ -88,7 +89,7 @@ pub fn source<'a>(
 ) -> Option<&'a Cap>
     requires { IsOurs vpes.now vpe }
     ensures { option_map capability_of (option_copied result)
-        ≡ source_lem setup.now (owning caps.now.caps vpes.now.rows no_side) vpe target.now }
+        ≡ source_spec setup.now (owning caps.now.caps vpes.now.rows no_side) vpe target.now }
 {
     match target {
         Target::Sel { sel, .. } => caps.get(vpes.held_key(vpe, *sel)?),

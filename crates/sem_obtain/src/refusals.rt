@@ -6,7 +6,7 @@ ghost use Rattle.sem_machine.specs.Sides.{no_side};
 ghost use Rattle.sem_machine.specs.Steps.{first_code};
 ghost use Rattle.sem_machine.specs.Calls.{obtain_tests, offer_tests, open_tests};
 ghost use Rattle.sem_machine.specs.Stores.{owning, with_vpes};
-ghost use Rattle.sem_machine.specs.Upcalls.{source as source_lem, source_tests};
+ghost use Rattle.sem_machine.specs.Upcalls.{source as source_spec, source_tests};
 
 use crate::lookups::{service_key, source};
 use sem_caps::Caps;
@@ -108,7 +108,7 @@ pub fn source_refusal(
     requires { IsOurs vpes.now vpe }
     ensures code { result
         ≡ first_code (source_tests target.now
-        (source_lem setup.now (owning caps.now.caps vpes.now.rows no_side) vpe target.now)) }
+        (source_spec setup.now (owning caps.now.caps vpes.now.rows no_side) vpe target.now)) }
     ensures refusal { IfSome result (λ code. IsRefusal (code_number code)) }
 {
     let Some(cap) = source(setup, vpe, target, caps, vpes) else {

@@ -3,20 +3,20 @@ ghost use Rattle.sem_key.specs.declared.key.Kind.{Kind};
 ghost use Rattle.sem_key.specs.CapList.{cap_of};
 ghost use Rattle.sem_key.specs.Capability.{capability_of};
 ghost use Rattle.sem_key.specs.ObjectRanges.{object_kind, IsValidObject};
-ghost use Rattle.sem_key.specs.PlaceName.{keyed as keyed_lem};
+ghost use Rattle.sem_key.specs.PlaceName.{keyed as keyed_spec};
 ghost use Rattle.sem_msg.specs.declared.message.Message.TheVariants.{ObtainOk};
 ghost use Rattle.sem_msg.specs.declared.state.Ask.TheVariants.{Obtain as ObtainAsk};
-ghost use Rattle.sem_msg.specs.Lookups.{kernel_of as kernel_of_lem, owner_of as owner_of_lem};
-ghost use Rattle.sem_msg.specs.Lookups.{place_owner as place_owner_lem};
+ghost use Rattle.sem_msg.specs.Lookups.{kernel_of as kernel_of_spec, owner_of as owner_of_spec};
+ghost use Rattle.sem_msg.specs.Lookups.{place_owner as place_owner_spec};
 ghost use Rattle.sem_msg.specs.Message.{Fits, IsValidTarget};
 ghost use Rattle.sem_msg.specs.Outboxes.{HasBoxes};
 ghost use Rattle.sem_msg.specs.ParkedStates.{state_of};
 ghost use Rattle.sem_vpe.specs.VpeTable.{AreOurs, IsOurs};
 ghost use Rattle.sem_machine.specs.Sides.{Side, no_side};
-ghost use Rattle.sem_machine.specs.Upcalls.{ask_decided, given as given_lem, given_here};
-ghost use Rattle.sem_machine.specs.Upcalls.{obtain_consent, source as source_lem};
+ghost use Rattle.sem_machine.specs.Upcalls.{ask_decided, given as given_spec, given_here};
+ghost use Rattle.sem_machine.specs.Upcalls.{obtain_consent, source as source_spec};
 ghost use Rattle.sem_machine.specs.Stores.{installing, owning, with_caps_vpes_parks_outs};
-ghost use Rattle.sem_obtain.specs.Asking.{answer_to, is_unawaited as is_unawaited_lem, child_sent};
+ghost use Rattle.sem_obtain.specs.Asking.{answer_to, is_unawaited as is_unawaited_spec, child_sent};
 ghost use Rattle.sem_obtain.specs.Asking.{IsGivable, IsUnusedNumber};
 
 use crate::ends::refuse_ask;
@@ -45,11 +45,11 @@ pub fn obtain_upcall(
     outs: &mut Outboxes,
 ) -> Outcome
     requires home { AreOurs setup.now kernel vpes.old }
-    requires vpe { kernel_of_lem setup.now vpe ≡ kernel }
-    requires owner { place_owner_lem setup.now place < setup.now.kernels }
+    requires vpe { kernel_of_spec setup.now vpe ≡ kernel }
+    requires owner { place_owner_spec setup.now place < setup.now.kernels }
     requires target { IsValidTarget target }
     requires source { IfSome
-        (source_lem setup.now (owning caps.old.caps vpes.old.rows no_side) vpe target)
+        (source_spec setup.now (owning caps.old.caps vpes.old.rows no_side) vpe target)
         (IsGivable caps.old) }
     requires free { IsUnusedNumber caps.old park.old place }
     requires spare { 0 < caps.old.spare }
@@ -94,7 +94,7 @@ fn answer(setup: &Setup, kernel: u32, vpe: u16, place: Place, park: &Park) -> Co
 
 // Whether the asker is of this kernel and does not wait for the answer.
 fn is_unawaited(setup: &Setup, kernel: u32, place: Place, park: &Park) -> bool
-    ensures { result ≡ is_unawaited_lem setup.now kernel park.now place }
+    ensures { result ≡ is_unawaited_spec setup.now kernel park.now place }
 {
     setup.kernel_of(place.vpe) == kernel && !park.is_obtain_wait(place.vpe, place.number)
 }
@@ -112,14 +112,14 @@ fn consent(
     outs: &mut Outboxes,
 ) -> Option<(Key, Key)>
     requires home { AreOurs setup.now kernel vpes.old }
-    requires vpe { kernel_of_lem setup.now vpe ≡ kernel }
-    requires owner { place_owner_lem setup.now place < setup.now.kernels }
+    requires vpe { kernel_of_spec setup.now vpe ≡ kernel }
+    requires owner { place_owner_spec setup.now place < setup.now.kernels }
     requires target { IsValidTarget target }
     requires source { IfSome
-        (source_lem setup.now (owning caps.old.caps vpes.old.rows no_side) vpe target)
+        (source_spec setup.now (owning caps.old.caps vpes.old.rows no_side) vpe target)
         (IsGivable caps.old) }
-    requires free { (kind : Kind) → kernel_of_lem setup.now place.vpe ≡ kernel →
-        cap_of caps.old.caps (keyed_lem place kind) ≡ None }
+    requires free { (kind : Kind) → kernel_of_spec setup.now place.vpe ≡ kernel →
+        cap_of caps.old.caps (keyed_spec place kind) ≡ None }
     requires spare { 0 < caps.old.spare }
     requires boxes { HasBoxes setup.now outs.old }
     requires messages { 0 < outs.old.spare }
@@ -149,7 +149,7 @@ fn consent(
 
 // The object of the child: that of the source, or a session of the asker with the service.
 fn given(target: &Target, asker: u16, cap: &Cap) -> Object
-    ensures { result ≡ given_lem target.now asker (capability_of cap.now) }
+    ensures { result ≡ given_spec target.now asker (capability_of cap.now) }
 {
     match target {
         Target::Serv { service } => Object::Sess {
@@ -173,11 +173,11 @@ fn give(
     outs: &mut Outboxes,
 )
     requires home { AreOurs setup.now kernel vpes.old }
-    requires owner { owner_of_lem setup.now key < setup.now.kernels }
+    requires owner { owner_of_spec setup.now key < setup.now.kernels }
     requires object { IsValidObject object }
     requires kind { key.kind ≡ object_kind object }
     requires child_room { caps.old.child_room ≡ Some parent }
-    requires free { kernel_of_lem setup.now key.vpe ≡ kernel → cap_of caps.old.caps key ≡ None }
+    requires free { kernel_of_spec setup.now key.vpe ≡ kernel → cap_of caps.old.caps key ≡ None }
     requires spare { 0 < caps.old.spare }
     requires boxes { HasBoxes setup.now outs.old }
     requires messages { 0 < outs.old.spare }

@@ -6,7 +6,7 @@ ghost use Rattle.sem_msg.specs.Audits.{held_pairs};
 ghost use Rattle.sem_machine.specs.Schedules.{world_after};
 ghost use Rattle.sem_kernel.specs.Standing.{StandsAt};
 ghost use Rattle.sem_kernel.specs.KernelValue.{KernelValue};
-ghost use Rattle.sem_histories.specs.Outcomes.{outcome, codes_to as codes_to_lem, held_in};
+ghost use Rattle.sem_histories.specs.Outcomes.{outcome, codes_to as codes_to_spec, held_in};
 ghost use Rattle.std.specs.Prelude.{map};
 
 use sem_audit::held_list;
@@ -36,7 +36,7 @@ pub fn outcome_of(
 // The codes of the replies to each VPE, in order.
 fn all_codes(alloc: Global, setup: &Setup, entries: &[Entry]) -> Result<Vec<Vec<u8>>, OutOfMemory>
     ensures { IfOk result (λ codes. map (λ c. c.items) codes.items
-        ≡ map (λ d. codes_to_lem entries.now d.vpe) setup.now.vpes) }
+        ≡ map (λ d. codes_to_spec entries.now d.vpe) setup.now.vpes) }
 {
     let mut codes = Vec::new(alloc);
     for decl in setup.vpes.as_slice() {
@@ -47,7 +47,7 @@ fn all_codes(alloc: Global, setup: &Setup, entries: &[Entry]) -> Result<Vec<Vec<
 
 // The codes of the replies to the VPE, in order.
 fn codes_to(alloc: Global, entries: &[Entry], vpe: u16) -> Result<Vec<u8>, OutOfMemory>
-    ensures { IfOk result (λ codes. codes.items ≡ codes_to_lem entries.now vpe) }
+    ensures { IfOk result (λ codes. codes.items ≡ codes_to_spec entries.now vpe) }
 {
     let mut codes = Vec::new(alloc);
     for entry in entries {
@@ -58,7 +58,8 @@ fn codes_to(alloc: Global, entries: &[Entry], vpe: u16) -> Result<Vec<u8>, OutOf
 
 // Adds the code that the entry tells the VPE, if it tells one.
 fn add_code(codes: &mut Vec<u8>, entry: &Entry, vpe: u16) -> Result<(), OutOfMemory>
-    ensures { OnOk result (codes.new.items ≡ codes.old.items ++ codes_to_lem (entry.now ∷ []) vpe) }
+    ensures { OnOk result
+        (codes.new.items ≡ codes.old.items ++ codes_to_spec (entry.now ∷ []) vpe) }
 {
     if let Some(code) = code_to(entry, vpe) {
         codes.push(code)?;
@@ -68,7 +69,7 @@ fn add_code(codes: &mut Vec<u8>, entry: &Entry, vpe: u16) -> Result<(), OutOfMem
 
 // The code that the entry tells the VPE, if it tells one.
 fn code_to(entry: &Entry, vpe: u16) -> Option<u8>
-    ensures { codes_to_lem (entry.now ∷ []) vpe ≡ option_to_list result }
+    ensures { codes_to_spec (entry.now ∷ []) vpe ≡ option_to_list result }
 {
     match entry.reply {
         Some(reply) => own_code(reply, vpe),

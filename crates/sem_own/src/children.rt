@@ -5,7 +5,7 @@ ghost use Rattle.sem_msg.specs.VpeRows.{row, slot};
 ghost use Rattle.sem_vpe.specs.VpeTable.{IsOurs};
 ghost use Rattle.sem_machine.specs.Sides.{Side};
 ghost use Rattle.sem_machine.specs.Calls.{child_made, derive_row, gate_row};
-ghost use Rattle.sem_machine.specs.Calls.{narrowed as narrowed_lem};
+ghost use Rattle.sem_machine.specs.Calls.{narrowed as narrowed_spec};
 ghost use Rattle.sem_machine.specs.Stores.{owning};
 ghost use Rattle.sem_own.specs.Holding.{IsNextFree, HasChildRoom};
 
@@ -95,7 +95,7 @@ pub fn gate_call(
 
 // That part of the object.
 fn narrowed(part: &Part, object: &Object) -> Object
-    ensures { result ≡ narrowed_lem part.now.off part.now.len part.now.rights object.now }
+    ensures { result ≡ narrowed_spec part.now.off part.now.len part.now.rights object.now }
 {
     match object {
         Object::Mem { base, .. } => Object::Mem {

@@ -4,7 +4,7 @@ ghost use Rattle.sem_machine.specs.Sides.{no_side};
 ghost use Rattle.sem_machine.specs.Steps.{first_code};
 ghost use Rattle.sem_machine.specs.Calls.{bind_tests, derive_tests};
 ghost use Rattle.sem_machine.specs.Calls.{gate_tests};
-ghost use Rattle.sem_machine.specs.Calls.{is_wider as is_wider_lem};
+ghost use Rattle.sem_machine.specs.Calls.{is_wider as is_wider_spec};
 ghost use Rattle.sem_machine.specs.Stores.{owning};
 
 use crate::children::Part;
@@ -15,7 +15,7 @@ use sem_vpe::Vpes;
 
 // Whether the part goes past the end of the memory, or has more rights.
 fn is_wider(part: &Part, object: &Object) -> bool
-    ensures { result ≡ is_wider_lem part.now.off part.now.len part.now.rights object.now }
+    ensures { result ≡ is_wider_spec part.now.off part.now.len part.now.rights object.now }
 {
     match object {
         Object::Mem { len, rights, .. } => {

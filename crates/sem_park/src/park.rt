@@ -1,7 +1,7 @@
 ghost use Rattle.std.specs.Prelude.{◌≡◌, ◌<◌, ◌≤◌, length, replicate, None, Some};
 ghost use Rattle.sem_msg.specs.ParkedStates.{state_of, parked_as, unparked, promised_to, cancelled};
-ghost use Rattle.sem_msg.specs.ParkedStates.{is_obtain_wait as is_obtain_wait_lem};
-ghost use Rattle.sem_msg.specs.ParkedStates.{is_delegate_wait as is_delegate_wait_lem};
+ghost use Rattle.sem_msg.specs.ParkedStates.{is_obtain_wait as is_obtain_wait_spec};
+ghost use Rattle.sem_msg.specs.ParkedStates.{is_delegate_wait as is_delegate_wait_spec};
 ghost use Rattle.sem_park.specs.Parks.{IsPark};
 
 use sem_key::{Key, VPES, same_key};
@@ -53,7 +53,7 @@ impl Park {
     /// Whether an asking call of the VPE waits with that number. The VPE must be 0 to 127.
     pub fn is_obtain_wait(&self, vpe: u16, number: u16) -> bool
         requires { vpe < VPES }
-        ensures { result ≡ is_obtain_wait_lem number (state_of self.now vpe) }
+        ensures { result ≡ is_obtain_wait_spec number (state_of self.now vpe) }
     {
         match self.state(vpe) {
             Some(
@@ -68,7 +68,7 @@ impl Park {
 
     /// Whether a delegate of that capability waits.
     pub fn is_delegate_wait(&self, parent: Key) -> bool
-        ensures { result ≡ is_delegate_wait_lem parent (state_of self.now parent.vpe) }
+        ensures { result ≡ is_delegate_wait_spec parent (state_of self.now parent.vpe) }
     {
         let state = self.state(parent.vpe);
         match &state {

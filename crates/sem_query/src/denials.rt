@@ -2,7 +2,7 @@ ghost use Rattle.std.specs.Prelude.{◌≡◌, ℕ, List, ◌++◌, ◌<◌, ◌
 ghost use Rattle.sem_msg.specs.declared.entry.Reply.{Reply as ReplyTo};
 ghost use Rattle.sem_msg.specs.Codes.{code_number};
 ghost use Rattle.sem_machine.specs.Schedules.{IsSchedule};
-ghost use Rattle.sem_query.specs.Denials.{code_name as code_name_lem, Denies, denied_line};
+ghost use Rattle.sem_query.specs.Denials.{code_name as code_name_spec, Denies, denied_line};
 ghost use Rattle.sem_query.specs.Denials.{IsDenied};
 
 use crate::settling::settling_entry;
@@ -114,7 +114,7 @@ fn code_of(number: u8) -> Code
 }
 
 fn code_name(code: Code) -> &'static [u8]
-    ensures { result.now ≡ code_name_lem code }
+    ensures { result.now ≡ code_name_spec code }
 {
     match code {
         Code::Ok => b"Ok",

@@ -1,9 +1,9 @@
 // What an entry tells of the keys that it moves.
 ghost use Rattle.std.specs.Prelude.{◌≡◌, option_copied};
-ghost use Rattle.sem_query.specs.Changes.{is_revoking as is_revoking_lem};
-ghost use Rattle.sem_query.specs.Building.{handled as handled_lem, brought_in as brought_in_lem};
-ghost use Rattle.sem_query.specs.Building.{brought_by, resumed as resumed_lem};
-ghost use Rattle.sem_query.specs.Building.{requested as requested_lem, returned as returned_lem};
+ghost use Rattle.sem_query.specs.Changes.{is_revoking as is_revoking_spec};
+ghost use Rattle.sem_query.specs.Building.{handled as handled_spec, brought_in as brought_in_spec};
+ghost use Rattle.sem_query.specs.Building.{brought_by, resumed as resumed_spec};
+ghost use Rattle.sem_query.specs.Building.{requested as requested_spec, returned as returned_spec};
 
 use sem_key::Key;
 use sem_msg::{Act, Call, Detail, Entry, Message};
@@ -19,7 +19,7 @@ pub fn brought_key(entry: &Entry) -> Option<Key>
 }
 
 fn handled(entry: &Entry) -> Option<&Message>
-    ensures { option_copied result ≡ handled_lem entry.now.event.act entry.now.detail }
+    ensures { option_copied result ≡ handled_spec entry.now.event.act entry.now.detail }
 {
     match (&entry.event.act, &entry.detail) {
         (Act::Handle, Detail::Carried { message, .. }) => Some(message),
@@ -29,7 +29,7 @@ fn handled(entry: &Entry) -> Option<&Message>
 
 // The key that the message brings.
 fn brought_in(message: &Message) -> Option<Key>
-    ensures { result ≡ brought_in_lem message.now }
+    ensures { result ≡ brought_in_spec message.now }
 {
     match message {
         Message::ObtainOk { key, .. } => Some(*key),
@@ -40,7 +40,7 @@ fn brought_in(message: &Message) -> Option<Key>
 
 /// The VPE whose call goes on.
 pub fn resumed(act: Act) -> Option<u16>
-    ensures { result ≡ resumed_lem act }
+    ensures { result ≡ resumed_spec act }
 {
     match act {
         Act::Resume { vpe } => Some(vpe),
@@ -50,7 +50,7 @@ pub fn resumed(act: Act) -> Option<u16>
 
 /// Whether the entry revokes.
 pub fn is_revoking(entry: &Entry) -> bool
-    ensures { result ≡ is_revoking_lem entry.now }
+    ensures { result ≡ is_revoking_spec entry.now }
 {
     match (entry.event.act, entry.detail) {
         (Act::Kill { .. }, _) => true,
@@ -69,7 +69,7 @@ pub fn is_revoking(entry: &Entry) -> bool
 
 /// The key that another kernel asks to revoke.
 pub fn requested(entry: &Entry) -> Option<Key>
-    ensures { result ≡ requested_lem entry.now.event.act entry.now.detail }
+    ensures { result ≡ requested_spec entry.now.event.act entry.now.detail }
 {
     match handled(entry) {
         Some(Message::RevokeReq { key, .. }) => Some(*key),
@@ -79,7 +79,7 @@ pub fn requested(entry: &Entry) -> Option<Key>
 
 /// The job that a token comes back to.
 pub fn returned(entry: &Entry) -> Option<u32>
-    ensures { result ≡ returned_lem entry.now.event.act entry.now.detail }
+    ensures { result ≡ returned_spec entry.now.event.act entry.now.detail }
 {
     match handled(entry) {
         Some(Message::RevokeDone { job }) => Some(*job),

@@ -1,9 +1,10 @@
 // The life of one key.
 ghost use Rattle.std.specs.Prelude.{◌≡◌, ◌+◌, ◌<◌, ◌^◌, Some, None, nat_lt, count_by};
 ghost use Rattle.std.specs.Prelude.{if◌then◌else◌, OnOk};
-ghost use Rattle.sem_query.specs.Lives.{is_below as is_below_lem, is_ungranted as is_ungranted_lem};
-ghost use Rattle.sem_query.specs.Lives.{is_odd as is_odd_lem, held_at as held_at_lem};
-ghost use Rattle.sem_query.specs.Lives.{told as told_lem, life_granted};
+ghost use Rattle.sem_query.specs.Lives.{is_below as is_below_spec};
+ghost use Rattle.sem_query.specs.Lives.{is_ungranted as is_ungranted_spec};
+ghost use Rattle.sem_query.specs.Lives.{is_odd as is_odd_spec, held_at as held_at_spec};
+ghost use Rattle.sem_query.specs.Lives.{told as told_spec, life_granted};
 ghost use Rattle.sem_query.specs.Building.{noted_now, begun_life};
 
 use crate::holder::Holder;
@@ -97,7 +98,7 @@ impl Life {
 
     /// Where the key is after the first `n` entries.
     pub fn told(&self, n: u64) -> Holder
-        ensures { result ≡ told_lem n self.now }
+        ensures { result ≡ told_spec n self.now }
     {
         if is_ungranted(n, self.granted) || is_below(n, self.gone) {
             Holder::No
@@ -111,7 +112,7 @@ impl Life {
 
 // Whether the entry is there and below `n`.
 fn is_below(n: u64, entry: Option<u64>) -> bool
-    ensures { result ≡ is_below_lem n entry }
+    ensures { result ≡ is_below_spec n entry }
 {
     match entry {
         Some(at) => at < n,
@@ -121,7 +122,7 @@ fn is_below(n: u64, entry: Option<u64>) -> bool
 
 // Whether the entry that grants is `n` or a later one.
 fn is_ungranted(n: u64, entry: Option<u64>) -> bool
-    ensures { result ≡ is_ungranted_lem n entry }
+    ensures { result ≡ is_ungranted_spec n entry }
 {
     match entry {
         Some(at) => !(at < n),
@@ -137,14 +138,14 @@ fn changes_below(marked: &Marks, n: u64) -> usize
 }
 
 fn is_odd(number: usize) -> bool
-    ensures { result ≡ is_odd_lem number }
+    ensures { result ≡ is_odd_spec number }
 {
     number % 2 == 1
 }
 
 // Where a held key is.
 fn held_at(is_marked: bool, sel: u8) -> Holder
-    ensures { result ≡ held_at_lem is_marked sel }
+    ensures { result ≡ held_at_spec is_marked sel }
 {
     if is_marked {
         Holder::Marked(sel)

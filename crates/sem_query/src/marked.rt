@@ -5,9 +5,9 @@ ghost use Rattle.std.specs.Prelude.{IfSome, IfNone, OnOk};
 ghost use Rattle.sem_key.specs.KeyName.{KeyName};
 ghost use Rattle.sem_msg.specs.Lookups.{owner_of};
 ghost use Rattle.sem_machine.specs.Machine.{side};
-ghost use Rattle.sem_query.specs.MarkedKeys.{mark_at, is_marked_by as is_marked_by_lem, AreMarked};
+ghost use Rattle.sem_query.specs.MarkedKeys.{mark_at, is_marked_by as is_marked_by_spec, AreMarked};
 ghost use Rattle.sem_query.specs.MarkedKeys.{marking, above_in, IsSeen, IsBounded};
-ghost use Rattle.sem_query.specs.MarkedKeys.{is_swept as is_swept_lem, AreParted};
+ghost use Rattle.sem_query.specs.MarkedKeys.{is_swept as is_swept_spec, AreParted};
 
 use crate::entries::returned;
 use crate::sights::kernel_at;
@@ -55,7 +55,7 @@ fn mark_of(setup: &Setup, world: &World, key: Key) -> Option<u32>
 
 // Whether its owner holds the key, and the job has marked it.
 fn is_marked_by(setup: &Setup, world: &World, key: Key, job: u32) -> bool
-    ensures { result ≡ is_marked_by_lem setup.now world.now.world key job }
+    ensures { result ≡ is_marked_by_spec setup.now world.now.world key job }
 {
     match mark_of(setup, world, key) {
         Some(by) => by == job,
@@ -159,9 +159,9 @@ fn part(
     moved: &mut Vec<Key>,
 ) -> Result<(), OutOfMemory>
     ensures kept { OnOk result (marked.new.items ≡ filter
-        (λ p. not (is_swept_lem setup.now world.now.world number only p)) marked.old.items) }
+        (λ p. not (is_swept_spec setup.now world.now.world number only p)) marked.old.items) }
     ensures gone { OnOk result (moved.new.items ≡ moved.old.items ++ map (λ p. p.0)
-        (filter (is_swept_lem setup.now world.now.world number only) marked.old.items)) }
+        (filter (is_swept_spec setup.now world.now.world number only) marked.old.items)) }
 {
     let mut kept = Vec::new(alloc);
     for marking in marked.as_slice() {
@@ -183,7 +183,7 @@ fn is_swept(
     only: Option<u32>,
     marking: (Key, u32),
 ) -> bool
-    ensures { result ≡ is_swept_lem setup.now world.now.world number only marking }
+    ensures { result ≡ is_swept_spec setup.now world.now.world number only marking }
 {
     let (key, job) = marking;
     if setup.owner_of(key) != number {

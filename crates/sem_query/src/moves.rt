@@ -2,7 +2,7 @@
 ghost use Rattle.std.specs.Prelude.{◌≡◌, ◌++◌, List, OnOk, IfOk};
 ghost use Rattle.sem_key.specs.KeyName.{KeyName};
 ghost use Rattle.sem_machine.specs.Machine.{side};
-ghost use Rattle.sem_query.specs.Building.{ready_key as ready_key_lem, ready_among, ready_by};
+ghost use Rattle.sem_query.specs.Building.{ready_key as ready_key_spec, ready_among, ready_by};
 ghost use Rattle.sem_query.specs.Building.{revoked_by, moved_at, moved_by};
 ghost use Rattle.sem_query.specs.Reaching.{AreRevoked};
 
@@ -134,7 +134,7 @@ fn push_ready_by(
 
 // The key that a call in that state is ready to install.
 fn ready_key(state: &Option<Parked>) -> Option<Key>
-    ensures { result ≡ ready_key_lem state.now }
+    ensures { result ≡ ready_key_spec state.now }
 {
     match state {
         Some(Parked::ObtainReady { key, .. }) => Some(*key),

@@ -1,10 +1,10 @@
 ghost use Rattle.std.specs.Prelude.{◌≡◌, ◌++◌, [], map, length, OnOk, OnErr};
 ghost use Rattle.std.specs.Option.{option_to_list};
-ghost use Rattle.sem_key.specs.Region.{has_key as has_key_lem};
+ghost use Rattle.sem_key.specs.Region.{has_key as has_key_spec};
 ghost use Rattle.sem_text.specs.Lines.{line, text};
 ghost use Rattle.sem_machine.specs.Journals.{parent_in, grants, line_in};
 ghost use Rattle.sem_machine.specs.Schedules.{IsSchedule};
-ghost use Rattle.sem_query.specs.Paths.{cut_word as cut_word_lem, step_words, path as path_lem};
+ghost use Rattle.sem_query.specs.Paths.{cut_word as cut_word_spec, step_words, path as path_spec};
 
 use sem_grants::{cut_keys, made_keys};
 use sem_key::{Key, Keys, OutOfMemory, same_key};
@@ -24,7 +24,7 @@ pub fn path(
 ) -> Result<(), OutOfMemory>
     requires { IsSchedule setup.now journal.now.entries }
     ensures ok { OnOk result
-        (out.new.items ≡ out.old.items ++ path_lem setup.now journal.now.entries key) }
+        (out.new.items ≡ out.old.items ++ path_spec setup.now journal.now.entries key) }
     ensures err { OnErr result (out.new.items ≡ out.old.items) }
 {
     let mut lines = Vec::new(alloc);
@@ -41,7 +41,7 @@ fn push_path(
     key: Key,
 ) -> Result<(), OutOfMemory>
     ensures { OnOk result
-        (out.new.items ≡ out.old.items ++ path_lem setup.now journal.now.entries key) }
+        (out.new.items ≡ out.old.items ++ path_spec setup.now journal.now.entries key) }
 {
     let made = made_keys(alloc, setup, journal)?;
     if !has_key(&made, key) {
@@ -81,14 +81,14 @@ fn push_step(out: &mut Vec<u8>, cut: &Keys, key: Key) -> Result<(), OutOfMemory>
 
 // The word that says whether a key was cut.
 fn cut_word(is_cut: bool) -> &'static [u8]
-    ensures { result.now ≡ cut_word_lem is_cut }
+    ensures { result.now ≡ cut_word_spec is_cut }
 {
     if is_cut { b"cut" } else { b"kept" }
 }
 
 // Whether the key is among these.
 fn has_key(keys: &[Key], key: Key) -> bool
-    ensures { result ≡ has_key_lem keys.now key }
+    ensures { result ≡ has_key_spec keys.now key }
 {
     keys.iter().any(|other| same_key(&key, other))
 }

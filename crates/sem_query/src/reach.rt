@@ -5,10 +5,10 @@ ghost use Rattle.std.specs.Prelude.{IfOk};
 ghost use Rattle.std.specs.Option.{option_to_list};
 ghost use Rattle.sem_key.specs.KeyName.{IsValidKey, key_eq};
 ghost use Rattle.sem_key.specs.Region.{has_key};
-ghost use Rattle.sem_mark.specs.Walks.{is_open as is_open_lem, children_at};
+ghost use Rattle.sem_mark.specs.Walks.{is_open as is_open_spec, children_at};
 ghost use Rattle.sem_query.specs.Reaching.{AreReached, AreRevoked, held_of};
-ghost use Rattle.sem_query.specs.Reaching.{roots_of as roots_of_lem, Lists};
-ghost use Rattle.sem_query.specs.Reaching.{has_word as has_word_lem, HasWords};
+ghost use Rattle.sem_query.specs.Reaching.{roots_of as roots_of_spec, Lists};
+ghost use Rattle.sem_query.specs.Reaching.{has_word as has_word_spec, HasWords};
 
 use crate::entries::requested;
 use sem_grants::ended_by;
@@ -28,7 +28,7 @@ pub fn reached_keys(alloc: Global, kernel: &Kernel, entry: &Entry) -> Result<Vec
 
 // Where the entry begins to revoke, as far as the kernel holds those keys.
 fn roots_of(alloc: Global, kernel: &Kernel, entry: &Entry) -> Result<Vec<Key>, OutOfMemory>
-    ensures { IfOk result (λ keys. keys.items ≡ roots_of_lem kernel.now.side.caps entry.now) }
+    ensures { IfOk result (λ keys. keys.items ≡ roots_of_spec kernel.now.side.caps entry.now) }
 {
     let mut roots = Vec::new(alloc);
     if let Some(key) = entry.cut {
@@ -162,7 +162,7 @@ fn list(
 
 // Whether the kernel holds the key unmarked.
 fn is_open(kernel: &Kernel, key: Key) -> bool
-    ensures { result ≡ is_open_lem kernel.now.side.caps key }
+    ensures { result ≡ is_open_spec kernel.now.side.caps key }
 {
     match kernel.held(key) {
         Some(cap) => cap.mark.is_none(),
@@ -171,7 +171,7 @@ fn is_open(kernel: &Kernel, key: Key) -> bool
 }
 
 fn has_word(words: &HashSet<u64>, key: Key) -> bool
-    ensures word { result ≡ has_word_lem words.now key }
+    ensures word { result ≡ has_word_spec words.now key }
     ensures valid { IsValidKey key }
 {
     words.contains(&pack(key))
@@ -179,7 +179,7 @@ fn has_word(words: &HashSet<u64>, key: Key) -> bool
 
 fn add_word(words: &mut HashSet<u64>, key: Key) -> Result<(), OutOfMemory>
     ensures { OnOk result (HasWords words.new
-        (λ k. has_word_lem words.old k || key_eq k key)) }
+        (λ k. has_word_spec words.old k || key_eq k key)) }
 {
     words.insert(pack(key))?;
     Ok(())

@@ -4,7 +4,7 @@ ghost use Rattle.sem_machine.specs.Sides.{parked};
 ghost use Rattle.sem_machine.specs.Machine.{side};
 ghost use Rattle.sem_machine.specs.Schedules.{IsSchedule};
 ghost use Rattle.sem_query.specs.Denials.{IsCallAt, IsLastCall, Settles};
-ghost use Rattle.sem_query.specs.Parking.{states_since as states_since_lem, IsFirstPlace};
+ghost use Rattle.sem_query.specs.Parking.{states_since as states_since_spec, IsFirstPlace};
 
 use crate::sights::parked_state;
 use crate::states::same_state;
@@ -75,7 +75,7 @@ fn states_since(
     requires schedule { IsSchedule setup.now entries.now }
     requires vpe { vpe < VPES }
     ensures { IfOk result
-        (λ states. states.items ≡ states_since_lem setup.now entries.now vpe from) }
+        (λ states. states.items ≡ states_since_spec setup.now entries.now vpe from) }
 {
     let kernel = setup.kernel_of(vpe);
     let mut world = World::boot(alloc, setup)?;

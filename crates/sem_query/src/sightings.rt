@@ -5,12 +5,12 @@ ghost use Rattle.sem_msg.specs.declared.entry.Entry.{Entry as EntryData};
 ghost use Rattle.sem_msg.specs.Setup.{Setup as SetupData};
 ghost use Rattle.sem_machine.specs.Machine.{side, start};
 ghost use Rattle.sem_machine.specs.Schedules.{IsSchedule, world_after};
-ghost use Rattle.sem_query.specs.Whereabouts.{holder as holder_lem};
+ghost use Rattle.sem_query.specs.Whereabouts.{holder as holder_spec};
 ghost use Rattle.sem_query.specs.Changes.{grants_key};
-ghost use Rattle.sem_query.specs.Sightings.{IsSeen, IsReadied, is_key as is_key_lem};
-ghost use Rattle.sem_query.specs.Sightings.{is_vpe as is_vpe_lem, is_root as is_root_lem};
-ghost use Rattle.sem_query.specs.Sightings.{moves_at_home as moves_at_home_lem};
-ghost use Rattle.sem_query.specs.Sightings.{may_move as may_move_lem};
+ghost use Rattle.sem_query.specs.Sightings.{IsSeen, IsReadied, is_key as is_key_spec};
+ghost use Rattle.sem_query.specs.Sightings.{is_vpe as is_vpe_spec, is_root as is_root_spec};
+ghost use Rattle.sem_query.specs.Sightings.{moves_at_home as moves_at_home_spec};
+ghost use Rattle.sem_query.specs.Sightings.{may_move as may_move_spec};
 
 use crate::entries::{brought_key, is_revoking, requested, resumed};
 use crate::holder::Holder;
@@ -86,7 +86,7 @@ impl Sighting {
     /// end; nowhere if there are fewer.
     pub fn holder(&self, entries: u64) -> Holder
         ensures { (T : SetupData) (J : List EntryData) → length J ≡ entries → IsSeen T J self.now
-            → result ≡ holder_lem T J self.now.key self.now.count }
+            → result ≡ holder_spec T J self.now.key self.now.count }
     {
         if entries < self.count {
             Holder::No
@@ -107,7 +107,7 @@ fn is_granted(entry: &Entry, key: Key) -> bool
 
 // Whether the entry may move the key, in the world before it and other than by granting it.
 fn may_move(setup: &Setup, world: &World, entry: &Entry, key: Key) -> bool
-    ensures { result ≡ may_move_lem setup.now world.now.world entry.now key }
+    ensures { result ≡ may_move_spec setup.now world.now.world entry.now key }
 {
     is_key(key, brought_key(entry))
         || (setup.owner_of(key) == entry.event.kernel && moves_at_home(world, entry, key))
@@ -116,7 +116,7 @@ fn may_move(setup: &Setup, world: &World, entry: &Entry, key: Key) -> bool
 // The same for a key of the entry's kernel.
 fn moves_at_home(world: &World, entry: &Entry, key: Key) -> bool
     ensures { result
-        ≡ moves_at_home_lem key (side world.now.world entry.now.event.kernel) entry.now }
+        ≡ moves_at_home_spec key (side world.now.world entry.now.event.kernel) entry.now }
 {
     let kernel = entry.event.kernel;
     (is_vpe(key.vpe, resumed(entry.event.act)) && is_ready_at(world, kernel, key))
@@ -127,14 +127,14 @@ fn moves_at_home(world: &World, entry: &Entry, key: Key) -> bool
 
 // Whether the entry begins to revoke at the key.
 fn is_root(entry: &Entry, key: Key) -> bool
-    ensures { result ≡ is_root_lem key entry.now }
+    ensures { result ≡ is_root_spec key entry.now }
 {
     is_key(key, entry.cut) || (is_key(key, requested(entry)) || is_vpe(key.vpe, ended_by(entry)))
 }
 
 // Whether the option is that key.
 fn is_key(key: Key, other: Option<Key>) -> bool
-    ensures { result ≡ is_key_lem key other }
+    ensures { result ≡ is_key_spec key other }
 {
     match other {
         Some(other) => same_key(&other, &key),
@@ -144,7 +144,7 @@ fn is_key(key: Key, other: Option<Key>) -> bool
 
 // Whether the option is that VPE.
 fn is_vpe(vpe: u16, other: Option<u16>) -> bool
-    ensures { result ≡ is_vpe_lem vpe other }
+    ensures { result ≡ is_vpe_spec vpe other }
 {
     match other {
         Some(other) => other == vpe,

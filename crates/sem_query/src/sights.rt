@@ -3,12 +3,12 @@ ghost use Rattle.std.specs.Prelude.{◌≡◌, ◌<◌, is_some, option_copied};
 ghost use Rattle.std.specs.Option.{option_map, option_map_or};
 ghost use Rattle.sem_key.specs.Capability.{capability_of};
 ghost use Rattle.sem_msg.specs.Lookups.{owner_of};
-ghost use Rattle.sem_msg.specs.ParkedStates.{is_ready_with as is_ready_with_lem};
+ghost use Rattle.sem_msg.specs.ParkedStates.{is_ready_with as is_ready_with_spec};
 ghost use Rattle.sem_machine.specs.Sides.{no_side, cap, parked};
 ghost use Rattle.sem_machine.specs.Machine.{side};
-ghost use Rattle.sem_query.specs.Whereabouts.{held_as as held_as_lem};
+ghost use Rattle.sem_query.specs.Whereabouts.{held_as as held_as_spec};
 ghost use Rattle.sem_query.specs.Changes.{seen_at_home};
-ghost use Rattle.sem_query.specs.Building.{seen_granted as seen_granted_lem};
+ghost use Rattle.sem_query.specs.Building.{seen_granted as seen_granted_spec};
 
 use crate::holder::Holder;
 use sem_kernel::{Kernel, World};
@@ -52,7 +52,7 @@ pub fn held_selector(setup: &Setup, world: &World, key: Key) -> Option<u8>
 
 /// Where a just granted key is: held by its owner, or on its way.
 pub fn see_granted(setup: &Setup, world: &World, key: Key) -> Holder
-    ensures { result ≡ seen_granted_lem key (side world.now.world (owner_of setup.now key)) }
+    ensures { result ≡ seen_granted_spec key (side world.now.world (owner_of setup.now key)) }
 {
     let Some(kernel) = kernel_at(world, setup.owner_of(key)) else {
         return Holder::Way;
@@ -65,7 +65,7 @@ pub fn see_granted(setup: &Setup, world: &World, key: Key) -> Holder
 
 /// Whether a call in that state is ready to install the key.
 pub fn is_ready_with(key: Key, state: &Option<Parked>) -> bool
-    ensures { result ≡ is_ready_with_lem key state.now }
+    ensures { result ≡ is_ready_with_spec key state.now }
 {
     match state {
         Some(Parked::ObtainReady { key: ready, .. }) => same_key(ready, &key),
@@ -86,7 +86,7 @@ pub fn parked_state(world: &World, kernel: u32, vpe: u16) -> Option<Parked>
 
 /// Whether a call of the key's VPE, one of the kernel, is ready to install the key.
 pub fn is_ready_at(world: &World, kernel: u32, key: Key) -> bool
-    ensures { result ≡ is_ready_with_lem key (parked (side world.now.world kernel) key.vpe) }
+    ensures { result ≡ is_ready_with_spec key (parked (side world.now.world kernel) key.vpe) }
 {
     is_ready_with(key, &parked_state(world, kernel, key.vpe))
 }
@@ -103,7 +103,7 @@ pub fn is_held_at(world: &World, kernel: u32, key: Key) -> bool
 
 // Where a held key is, by its capability.
 fn held_as(cap: &Cap) -> Holder
-    ensures { result ≡ held_as_lem (capability_of cap.now) }
+    ensures { result ≡ held_as_spec (capability_of cap.now) }
 {
     match cap.mark {
         Some(_) => Holder::Marked(cap.selector),

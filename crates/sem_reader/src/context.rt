@@ -3,13 +3,13 @@ ghost use Rattle.std.specs.Prelude.{◌≡◌, ℕ, ◌<◌, List, is_none};
 ghost use Rattle.sem_key.specs.declared.limits.TheConstants.{VPES};
 ghost use Rattle.sem_trace.specs.declared.declaration.Declaration.{Declaration as DeclarationData};
 ghost use Rattle.sem_trace.specs.Earlier.{pe_in, roots_in, holds_at};
-ghost use Rattle.sem_trace.specs.Context.{is_too_long as is_too_long_lem};
-ghost use Rattle.sem_trace.specs.Context.{is_undeclared as is_undeclared_lem};
-ghost use Rattle.sem_trace.specs.Context.{is_twice as is_twice_lem};
-ghost use Rattle.sem_trace.specs.Context.{undeclared_word as undeclared_word_lem};
-ghost use Rattle.sem_trace.specs.Context.{twice_word as twice_word_lem};
-ghost use Rattle.sem_trace.specs.Forms.{at_word as at_word_lem};
-ghost use Rattle.sem_trace.specs.Context.{is_call_too_many as is_call_too_many_lem, context_fault};
+ghost use Rattle.sem_trace.specs.Context.{is_too_long as is_too_long_spec};
+ghost use Rattle.sem_trace.specs.Context.{is_undeclared as is_undeclared_spec};
+ghost use Rattle.sem_trace.specs.Context.{is_twice as is_twice_spec};
+ghost use Rattle.sem_trace.specs.Context.{undeclared_word as undeclared_word_spec};
+ghost use Rattle.sem_trace.specs.Context.{twice_word as twice_word_spec};
+ghost use Rattle.sem_trace.specs.Forms.{at_word as at_word_spec};
+ghost use Rattle.sem_trace.specs.Context.{is_call_too_many as is_call_too_many_spec, context_fault};
 ghost use Rattle.sem_trace.specs.Ranges.{IsInRange};
 ghost use Rattle.sem_reader.specs.Tells.{Tells, HasSizes};
 
@@ -22,7 +22,7 @@ const MOST_CALLS: u32 = 20000;
 
 // The fault of that cause at a word.
 fn at_word(word: u64, cause: Cause) -> LineFault
-    ensures { result ≡ at_word_lem word cause }
+    ensures { result ≡ at_word_spec word cause }
 {
     LineFault {
         cause,
@@ -39,7 +39,7 @@ fn holds(roots: &[Root], sel: u8) -> bool
 
 // Whether the line declares memory that ends past 2 ^ 32.
 fn is_too_long(d: &Declaration) -> bool
-    ensures { result ≡ is_too_long_lem d.now }
+    ensures { result ≡ is_too_long_spec d.now }
 {
     match *d {
         Declaration::Memory { base, len, .. } => u64::from(base) + u64::from(len) > 1 << 32,
@@ -71,7 +71,7 @@ impl Tables {
     fn is_undeclared(&self, d: &Declaration) -> bool
         requires { IsInRange self.now.version self.now.owners.kernels d.now }
         ensures { (version kernels : ℕ) (ds : List DeclarationData) →
-            Tells version kernels ds self.now → result ≡ is_undeclared_lem ds d.now }
+            Tells version kernels ds self.now → result ≡ is_undeclared_spec ds d.now }
     {
         match *d {
             Declaration::Kernels { .. }
@@ -94,7 +94,7 @@ impl Tables {
         requires range { IsInRange self.now.version self.now.owners.kernels d.now }
         requires sizes { HasSizes self.now }
         ensures { (version kernels : ℕ) (ds : List DeclarationData) →
-            Tells version kernels ds self.now → result ≡ is_twice_lem ds d.now }
+            Tells version kernels ds self.now → result ≡ is_twice_spec ds d.now }
     {
         match *d {
             Declaration::Kernels { .. } => true,
@@ -119,7 +119,7 @@ impl Tables {
     // Whether it is one call too many.
     fn is_call_too_many(&self, d: &Declaration) -> bool
         ensures { (version kernels : ℕ) (ds : List DeclarationData) →
-            Tells version kernels ds self.now → result ≡ is_call_too_many_lem ds d.now }
+            Tells version kernels ds self.now → result ≡ is_call_too_many_spec ds d.now }
     {
         match d {
             Declaration::Call { .. } => self.call_number >= MOST_CALLS,
@@ -131,7 +131,7 @@ impl Tables {
     fn undeclared_word(&self, d: &Declaration) -> u64
         requires { IsInRange self.now.version self.now.owners.kernels d.now }
         ensures { (version kernels : ℕ) (ds : List DeclarationData) →
-            Tells version kernels ds self.now → result ≡ undeclared_word_lem ds d.now }
+            Tells version kernels ds self.now → result ≡ undeclared_word_spec ds d.now }
     {
         match *d {
             Declaration::Vpe { .. } => 2,
@@ -145,7 +145,7 @@ impl Tables {
         requires range { IsInRange self.now.version self.now.owners.kernels d.now }
         requires sizes { HasSizes self.now }
         ensures { (version kernels : ℕ) (ds : List DeclarationData) →
-            Tells version kernels ds self.now → result ≡ twice_word_lem ds d.now }
+            Tells version kernels ds self.now → result ≡ twice_word_spec ds d.now }
     {
         match *d {
             Declaration::Kernels { .. } | Declaration::Window { .. } => 0,

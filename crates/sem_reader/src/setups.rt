@@ -2,13 +2,13 @@
 ghost use Rattle.std.specs.Prelude.{map as list_map, ◌≡◌, ℕ, ◌<◌, ◌≤◌, ◌++◌, List, All, filter_map};
 ghost use Rattle.std.specs.Prelude.{option_map, option_to_list, IfOk, OnOk};
 ghost use Rattle.sem_key.specs.declared.limits.TheConstants.{NUMBERS};
-ghost use Rattle.sem_msg.specs.Setup.{services_from, service_with as service_with_lem};
-ghost use Rattle.sem_key.specs.declared.limits.TheConstants.{VPES as VPES_LEM};
+ghost use Rattle.sem_msg.specs.Setup.{services_from, service_with as service_with_spec};
+ghost use Rattle.sem_key.specs.declared.limits.TheConstants.{VPES as VPES_SPEC};
 ghost use Rattle.sem_trace.specs.declared.declaration.Declaration.{Declaration as DeclarationData};
 ghost use Rattle.sem_trace.specs.Earlier.{vpe_in, kill_in};
 ghost use Rattle.sem_trace.specs.Refusal.{numbers};
-ghost use Rattle.sem_trace.specs.SetupOfText.{vpes_of, services_among as services_among_lem};
-ghost use Rattle.sem_trace.specs.SetupOfText.{named as named_lem, services_of as services_of_lem};
+ghost use Rattle.sem_trace.specs.SetupOfText.{vpes_of, services_among as services_among_spec};
+ghost use Rattle.sem_trace.specs.SetupOfText.{named as named_spec, services_of as services_of_spec};
 ghost use Rattle.sem_trace.specs.SetupOfText.{offers_of, denies_of, kills_of, setup_of};
 ghost use Rattle.std.specs.List.Sorted.{IsPermutation, IsSorted};
 ghost use Rattle.indexmap.specs.IndexMap as map;
@@ -36,11 +36,11 @@ fn push_some<T: Drop>(list: &mut Seq<T>, item: Option<T>) -> Result<(), OutOfMem
 
 // The service of the root at that place, if the root is one.
 fn service_with(pe: u8, vpe: u16, number: u16, object: &Object) -> Option<Service>
-    requires pe { pe < VPES_LEM }
-    requires vpe { vpe < VPES_LEM }
+    requires pe { pe < VPES_SPEC }
+    requires vpe { vpe < VPES_SPEC }
     requires number { number < NUMBERS }
     ensures { option_to_list result
-        ≡ service_with_lem object.now (record {
+        ≡ service_with_spec object.now (record {
           pe = pe;
           vpe = vpe;
           kind = object_kind object.now;
@@ -77,7 +77,7 @@ fn push_services(services: &mut Services, declared: &VpeDecl) -> Result<(), OutO
 // The services among the roots, VPE by VPE.
 fn services_among(alloc: Global, vpes: &Vpes0) -> Result<Services, OutOfMemory>
     requires { All IsPlainVpe vpes.now }
-    ensures { IfOk result (λ services. services ≡ services_among_lem vpes.now) }
+    ensures { IfOk result (λ services. services ≡ services_among_spec vpes.now) }
 {
     let mut services = Services::new(alloc);
     for declared in vpes.as_slice() {
@@ -88,7 +88,7 @@ fn services_among(alloc: Global, vpes: &Vpes0) -> Result<Services, OutOfMemory>
 
 // The first service of that name.
 fn named(services: &[Service], name: u8) -> Option<Service>
-    ensures { result ≡ named_lem services.now name }
+    ensures { result ≡ named_spec services.now name }
 {
     for service in services {
         if service.name == name {
@@ -101,7 +101,7 @@ fn named(services: &[Service], name: u8) -> Option<Service>
 // The services by name.
 fn services_of(alloc: Global, vpes: &Vpes0) -> Result<Services, OutOfMemory>
     requires { All IsPlainVpe vpes.now }
-    ensures { IfOk result (λ services. services ≡ services_of_lem vpes.now) }
+    ensures { IfOk result (λ services. services ≡ services_of_spec vpes.now) }
 {
     let declared = services_among(alloc, vpes)?;
     let mut services = Services::new(alloc);
@@ -168,7 +168,7 @@ impl Tables {
     // The VPE with all that is declared of it.
     #[tactic(auto, unfolding(sem_trace::specs::Earlier::vpe_in))]
     fn vpe(&self, alloc: Global, vpe: u16) -> Result<Option<VpeDecl>, OutOfMemory>
-        requires vpe { vpe < VPES_LEM }
+        requires vpe { vpe < VPES_SPEC }
         requires sizes { HasSizes self.now }
         ensures { (version kernels : ℕ) (ds : List DeclarationData) →
             Tells version kernels ds self.now → IfOk result (λ found. found ≡ vpe_in ds vpe) }
@@ -201,7 +201,7 @@ impl Tables {
     fn offers(&self, alloc: Global) -> Result<Offers, OutOfMemory>
         ensures { (version kernels : ℕ) (ds : List DeclarationData) →
             Tells version kernels ds self.now →
-            IfOk result (λ offers. offers ≡ offers_of ds (services_of_lem (vpes_of ds))) }
+            IfOk result (λ offers. offers ≡ offers_of ds (services_of_spec (vpes_of ds))) }
     {
         let entries = sorted_offers(alloc, &self.offers)?;
         offers_from(alloc, &entries)
@@ -219,7 +219,7 @@ impl Tables {
 
     // The kill of the VPE, if it is killed.
     fn kill(&self, vpe: u16) -> Option<(u16, u64)>
-        requires { vpe < VPES_LEM }
+        requires { vpe < VPES_SPEC }
         ensures { (version kernels : ℕ) (ds : List DeclarationData) →
             Tells version kernels ds self.now →
             result ≡ option_map (λ replies. (vpe, replies)) (kill_in ds vpe) }

@@ -1,6 +1,6 @@
 // What the lines so far declare, by number.
 ghost use Rattle.std.specs.Prelude.{◌≡◌, [], replicate, IfOk};
-ghost use Rattle.sem_key.specs.declared.limits.TheConstants.{VPES as VPES_LEM};
+ghost use Rattle.sem_key.specs.declared.limits.TheConstants.{VPES as VPES_SPEC};
 ghost use Rattle.sem_reader.specs.Tells.{Tells, HasSizes};
 
 use indexmap::{IndexMap, IndexSet};
@@ -45,7 +45,7 @@ pub(crate) struct Tables {
 
 // Empty lists of roots for all VPEs.
 fn no_roots(alloc: Global) -> Result<Vec<Roots>, OutOfMemory>
-    ensures { IfOk result (λ lists. lists.items ≡ replicate VPES_LEM []) }
+    ensures { IfOk result (λ lists. lists.items ≡ replicate VPES_SPEC []) }
 {
     let mut lists = Vec::new(alloc);
     for _ in 0..VPES {
@@ -56,7 +56,7 @@ fn no_roots(alloc: Global) -> Result<Vec<Roots>, OutOfMemory>
 
 // Empty lists of calls for all VPEs.
 fn no_calls(alloc: Global) -> Result<Vec<Calls>, OutOfMemory>
-    ensures { IfOk result (λ lists. lists.items ≡ replicate VPES_LEM []) }
+    ensures { IfOk result (λ lists. lists.items ≡ replicate VPES_SPEC []) }
 {
     let mut lists = Vec::new(alloc);
     for _ in 0..VPES {

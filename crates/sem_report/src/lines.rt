@@ -2,9 +2,9 @@
 ghost use Rattle.std.specs.Prelude.{◌≡◌, ℕ, ◌+◌, ◌≤◌, ◌<◌, List, [], ◌∷◌, ◌++◌, length};
 ghost use Rattle.std.specs.Prelude.{MatchOption, IfSome};
 ghost use Rattle.std.specs.Str.{bytes_eq};
-ghost use Rattle.sem_report.specs.WholeLines.{whole_lines, content as content_lem};
-ghost use Rattle.sem_report.specs.ReportRefusal.{first_difference as first_difference_lem};
-ghost use Rattle.sem_report.specs.ReportRefusal.{trace_section, is_end_line as is_end_line_lem};
+ghost use Rattle.sem_report.specs.WholeLines.{whole_lines, content as content_spec};
+ghost use Rattle.sem_report.specs.ReportRefusal.{first_difference as first_difference_spec};
+ghost use Rattle.sem_report.specs.ReportRefusal.{trace_section, is_end_line as is_end_line_spec};
 
 use sem_text::line_at;
 use sem_trace::{is, next_word};
@@ -20,7 +20,7 @@ pub struct Line<'a> {
 pub fn next_whole_line(text: &[u8]) -> Option<(Line<'_>, &[u8])>
     ensures lines { MatchOption result (whole_lines text.now ≡ [])
         (λ p. whole_lines text.now ≡ p.0.whole.now ∷ whole_lines p.1.now) }
-    ensures content { IfSome result (λ p. p.0.content.now ≡ content_lem p.0.whole.now) }
+    ensures content { IfSome result (λ p. p.0.content.now ≡ content_spec p.0.whole.now) }
     ensures text { MatchOption result (text.now ≡ []) (λ p. text.now ≡ p.0.whole.now ++ p.1.now) }
     ensures some { IfSome result (λ p. 0 < length p.0.whole.now) }
     ensures lead { IfSome result (λ p. (x : List ℕ) → (p.1.now ≡ [] → x ≡ [])
@@ -43,7 +43,7 @@ pub fn same(text: &[u8], other: &[u8]) -> bool
 /// Takes no memory.
 pub fn first_difference(text: &[u8], other: &[u8], first: u64) -> Option<u64>
     requires { first + length text.now ≤ 1000000000 }
-    ensures { result ≡ first_difference_lem first (whole_lines text.now) (whole_lines other.now) }
+    ensures { result ≡ first_difference_spec first (whole_lines text.now) (whole_lines other.now) }
 {
     // Mostly they do not differ, and two texts are compared faster than their lines.
     if same(text, other) {
@@ -73,8 +73,8 @@ pub fn first_difference(text: &[u8], other: &[u8], first: u64) -> Option<u64>
 
 // Whether the line ends a trace.
 fn is_end_line(line: &Line) -> bool
-    requires { line.now.content.now ≡ content_lem line.now.whole.now }
-    ensures { result ≡ is_end_line_lem line.now.whole.now }
+    requires { line.now.content.now ≡ content_spec line.now.whole.now }
+    ensures { result ≡ is_end_line_spec line.now.whole.now }
 {
     match next_word(line.content) {
         Some((word, _)) => is(word, b"end"),

@@ -3,8 +3,8 @@ ghost use Rattle.std.specs.Prelude.{◌≡◌, ◌≤◌, ◌⊎◌, [], ◌∷�
 ghost use Rattle.std.specs.Prelude.{IfErr, OnOk, if◌then◌else◌};
 ghost use Rattle.std.specs.Result.{result_err};
 ghost use Rattle.std.specs.Str.{bytes_eq};
-ghost use Rattle.sem_text.specs.Lines.{line as line_lem};
-ghost use Rattle.sem_trace.specs.TextLines.{words_of, bytes_fault as bytes_fault_lem};
+ghost use Rattle.sem_text.specs.Lines.{line as line_spec};
+ghost use Rattle.sem_trace.specs.TextLines.{words_of, bytes_fault as bytes_fault_spec};
 ghost use Rattle.sem_trace.specs.Forms.{form_fault, word_fault};
 ghost use Rattle.sem_trace.specs.Places.{told_fault};
 ghost use Rattle.sem_trace.specs.Declarations.{number_at};
@@ -13,8 +13,8 @@ ghost use Rattle.sem_trace.specs.declared.fault.Cause.TheVariants.{NotCanonical}
 ghost use Rattle.sem_journal.specs.EntryForms.{entry_form};
 ghost use Rattle.sem_journal.specs.EntryRanges.{EntryFits};
 ghost use Rattle.sem_journal.specs.EntryText.{entry_words};
-ghost use Rattle.sem_journal.specs.ReportText.{held_line as held_words_lem};
-ghost use Rattle.sem_report.specs.WholeLines.{content as content_lem};
+ghost use Rattle.sem_journal.specs.ReportText.{held_line as held_words_spec};
+ghost use Rattle.sem_report.specs.WholeLines.{content as content_spec};
 ghost use Rattle.sem_report.specs.ReportRefusal.{words_in, report_line_fault, report_form};
 ghost use Rattle.sem_report.specs.ReportRefusal.{name_form, count_form, held_form};
 ghost use Rattle.sem_report.specs.ReadsReport.{Because};
@@ -28,8 +28,8 @@ use sem_trace::{BYTE, Cause, LineError, LineFault, WORD, Words, bytes_fault, pus
 
 // Checks that the line is short and is text.
 fn is_text(line: &Line) -> Result<(), Cause>
-    requires { line.now.content.now ≡ content_lem line.now.whole.now }
-    ensures { bytes_fault_lem (content_lem line.now.whole.now) ≡ result_err result }
+    requires { line.now.content.now ≡ content_spec line.now.whole.now }
+    ensures { bytes_fault_spec (content_spec line.now.whole.now) ≡ result_err result }
 {
     match bytes_fault(line.content) {
         Some(cause) => Err(cause),
@@ -106,7 +106,7 @@ fn count_words(line: &[u8], name: &[u8]) -> Result<u64, LineFault>
 fn held_key(words: &mut Words<'_>, version: u8) -> Result<Held, Cause>
     ensures fault { form_fault (held_form version words.old) words.old
         ≡ told_fault result words.new }
-    ensures printed { IfOk result (λ held. words.old ≡ held_words_lem (held.key, held.sel)) }
+    ensures printed { IfOk result (λ held. words.old ≡ held_words_spec (held.key, held.sel)) }
     ensures fits { IfOk result (λ held. HeldFits version (held.key, held.sel)) }
 {
     words.fixed(b"key")?;
@@ -124,7 +124,7 @@ fn held_words(line: &[u8], version: u8) -> Result<Held, LineFault>
     ensures fault { word_fault (held_form version (words_of line.now)) (words_of line.now)
         ≡ result_err result }
     ensures printed { IfOk result
-        (λ held. words_of line.now ≡ held_words_lem (held.key, held.sel)) }
+        (λ held. words_of line.now ≡ held_words_spec (held.key, held.sel)) }
     ensures fits { IfOk result (λ held. HeldFits version (held.key, held.sel)) }
 {
     let mut words = Words::of(line);
@@ -136,11 +136,11 @@ fn held_words(line: &[u8], version: u8) -> Result<Held, LineFault>
 
 /// Reads a line of one word. The old content of `printed` means nothing.
 pub fn name_line(line: &Line, name: &[u8], printed: &mut Vec<u8>) -> Result<(), LineError>
-    requires { line.now.content.now ≡ content_lem line.now.whole.now }
+    requires { line.now.content.now ≡ content_spec line.now.whole.now }
     ensures ok { OnOk result (report_line_fault (name_form name.now) line.now.whole.now ≡ None) }
     ensures err { IfErr result
         (Because (report_line_fault (name_form name.now) line.now.whole.now)) }
-    ensures read { OnOk result (line.now.whole.now ≡ line_lem (name.now ∷ [])) }
+    ensures read { OnOk result (line.now.whole.now ≡ line_spec (name.now ∷ [])) }
 {
     is_text(line)?;
     name_words(line.content, name)?;
@@ -153,11 +153,11 @@ pub fn name_line(line: &Line, name: &[u8], printed: &mut Vec<u8>) -> Result<(), 
 /// Reads a line of a word and a number, at most 4294967295. The old content of `printed` means
 /// nothing.
 pub fn count_line(line: &Line, name: &[u8], printed: &mut Vec<u8>) -> Result<u64, LineError>
-    requires { line.now.content.now ≡ content_lem line.now.whole.now }
+    requires { line.now.content.now ≡ content_spec line.now.whole.now }
     ensures ok { OnOk result (report_line_fault (count_form name.now) line.now.whole.now ≡ None) }
     ensures err { IfErr result
         (Because (report_line_fault (count_form name.now) line.now.whole.now)) }
-    ensures read { IfOk result (λ n. line.now.whole.now ≡ line_lem (name.now ∷ decimal n ∷ [])) }
+    ensures read { IfOk result (λ n. line.now.whole.now ≡ line_spec (name.now ∷ decimal n ∷ [])) }
     ensures number { IfOk result (λ n. number_at (words_in line.now.whole.now) 1 ≡ n) }
     ensures small { IfOk result (λ n. n ≤ 4294967295) }
 {
@@ -172,12 +172,12 @@ pub fn count_line(line: &Line, name: &[u8], printed: &mut Vec<u8>) -> Result<u64
 /// Reads the line of a held key, in a report of the version. The old content of `printed` means
 /// nothing.
 pub fn held_line(line: &Line, version: u8, printed: &mut Vec<u8>) -> Result<Held, LineError>
-    requires { line.now.content.now ≡ content_lem line.now.whole.now }
+    requires { line.now.content.now ≡ content_spec line.now.whole.now }
     ensures ok { OnOk result (report_line_fault (held_form version) line.now.whole.now ≡ None) }
     ensures err { IfErr result
         (Because (report_line_fault (held_form version) line.now.whole.now)) }
     ensures read { IfOk result
-        (λ held. line.now.whole.now ≡ line_lem (held_words_lem (held.key, held.sel))) }
+        (λ held. line.now.whole.now ≡ line_spec (held_words_spec (held.key, held.sel))) }
     ensures fits { IfOk result (λ held. HeldFits version (held.key, held.sel)) }
 {
     is_text(line)?;
@@ -196,13 +196,13 @@ pub fn entry_line(
     kernels: u32,
     printed: &mut Vec<u8>,
 ) -> Result<Entry, LineError>
-    requires content { line.now.content.now ≡ content_lem line.now.whole.now }
+    requires content { line.now.content.now ≡ content_spec line.now.whole.now }
     requires kernels { 1 ≤ kernels }
     ensures ok { OnOk result
         (report_line_fault (entry_form version kernels) line.now.whole.now ≡ None) }
     ensures err { IfErr result
         (Because (report_line_fault (entry_form version kernels) line.now.whole.now)) }
-    ensures read { IfOk result (λ e. line.now.whole.now ≡ line_lem (entry_words e)) }
+    ensures read { IfOk result (λ e. line.now.whole.now ≡ line_spec (entry_words e)) }
     ensures fits { IfOk result (EntryFits version kernels) }
 {
     is_text(line)?;
@@ -245,11 +245,11 @@ fn header_words(line: &[u8]) -> Result<u8, LineFault>
 
 /// Reads the first line, which tells the version. The old content of `printed` means nothing.
 pub fn header_line(line: &Line, printed: &mut Vec<u8>) -> Result<u8, LineError>
-    requires { line.now.content.now ≡ content_lem line.now.whole.now }
+    requires { line.now.content.now ≡ content_spec line.now.whole.now }
     ensures ok { OnOk result (report_line_fault report_form line.now.whole.now ≡ None) }
     ensures err { IfErr result (Because (report_line_fault report_form line.now.whole.now)) }
     ensures read { IfOk result (λ v. line.now.whole.now
-        ≡ line_lem (codes "semper" ∷ codes "report" ∷ decimal v ∷ [])) }
+        ≡ line_spec (codes "semper" ∷ codes "report" ∷ decimal v ∷ [])) }
     ensures version { IfOk result (λ v. version_in (words_in line.now.whole.now) ≡ v) }
     ensures versions { IfOk result (λ v. (v ≡ 1) ⊎ (v ≡ 2)) }
 {

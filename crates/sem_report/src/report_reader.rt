@@ -1,16 +1,16 @@
 // Reports, read line by line.
 ghost use Rattle.std.specs.Prelude.{◌≡◌, ◌+◌, ◌≤◌, ◌⊎◌, [], ◌∷◌, ◌++◌, length, take, drop, map};
 ghost use Rattle.std.specs.Prelude.{replicate, All, codes, decimal, None, IfOk, IfErr, OnOk};
-ghost use Rattle.sem_text.specs.Lines.{line as line_lem, text};
+ghost use Rattle.sem_text.specs.Lines.{line as line_spec, text};
 ghost use Rattle.sem_trace.specs.SetupOfText.{IsWhy};
 ghost use Rattle.sem_trace.specs.TraceText.{canonical};
 ghost use Rattle.sem_msg.specs.Audits.{held_pairs};
 ghost use Rattle.sem_journal.specs.EntryForms.{entry_form};
 ghost use Rattle.sem_journal.specs.EntryRanges.{EntryFits};
 ghost use Rattle.sem_journal.specs.EntryText.{entry_words};
-ghost use Rattle.sem_journal.specs.ReportText.{held_line as held_words_lem, journal_lines};
+ghost use Rattle.sem_journal.specs.ReportText.{held_line as held_words_spec, journal_lines};
 ghost use Rattle.sem_journal.specs.ReportText.{audit_lines, report_text};
-ghost use Rattle.sem_report.specs.WholeLines.{whole_lines, content as content_lem};
+ghost use Rattle.sem_report.specs.WholeLines.{whole_lines, content as content_spec};
 ghost use Rattle.sem_report.specs.ReportRefusal.{report_form, report_version, name_form};
 ghost use Rattle.sem_report.specs.ReportRefusal.{count_form, held_form, audit_forms, count_at};
 ghost use Rattle.sem_report.specs.ReportRefusal.{forms_fault, forms_behind};
@@ -60,7 +60,7 @@ impl<'a> Lines<'a> {
             self.new.number self.new.rest.now) }
         ensures err { IfErr result
             (IsMissing (self.old.number + 1) (whole_lines self.old.rest.now)) }
-        ensures content { IfOk result (λ l. l.content.now ≡ content_lem l.whole.now) }
+        ensures content { IfOk result (λ l. l.content.now ≡ content_spec l.whole.now) }
         ensures room { self.new.number + length self.new.rest.now ≤ 1000000000 }
     {
         match next_whole_line(self.rest) {
@@ -82,7 +82,7 @@ impl<'a> Lines<'a> {
         ensures err { IfErr result
             (IsWhy (forms_fault 1 (report_form ∷ []) (take 1 (whole_lines self.old.rest.now)))) }
         ensures read { IfOk result (λ v. self.old.rest.now
-            ≡ line_lem (codes "semper" ∷ codes "report" ∷ decimal v ∷ []) ++ self.new.rest.now) }
+            ≡ line_spec (codes "semper" ∷ codes "report" ∷ decimal v ∷ []) ++ self.new.rest.now) }
         ensures version { IfOk result (λ v. report_version (whole_lines self.old.rest.now) ≡ v) }
         ensures versions { IfOk result (λ v. (v ≡ 1) ⊎ (v ≡ 2)) }
         ensures behind { OnOk result
@@ -105,7 +105,7 @@ impl<'a> Lines<'a> {
         ensures err { IfErr result (Stops (name_form name.now ∷ []) (self.old.number + 1)
             (whole_lines self.old.rest.now)) }
         ensures read { OnOk result
-            (self.old.rest.now ≡ line_lem (name.now ∷ []) ++ self.new.rest.now) }
+            (self.old.rest.now ≡ line_spec (name.now ∷ []) ++ self.new.rest.now) }
         ensures behind { OnOk result
             (whole_lines self.new.rest.now ≡ drop 1 (whole_lines self.old.rest.now)) }
         ensures room { self.new.number + length self.new.rest.now ≤ 1000000000 }
@@ -126,7 +126,7 @@ impl<'a> Lines<'a> {
         ensures err { IfErr result (Stops (count_form name.now ∷ []) (self.old.number + 1)
             (whole_lines self.old.rest.now)) }
         ensures read { IfOk result
-            (λ n. self.old.rest.now ≡ line_lem (name.now ∷ decimal n ∷ []) ++ self.new.rest.now) }
+            (λ n. self.old.rest.now ≡ line_spec (name.now ∷ decimal n ∷ []) ++ self.new.rest.now) }
         ensures behind { OnOk result
             (whole_lines self.new.rest.now ≡ drop 1 (whole_lines self.old.rest.now)) }
         ensures room { self.new.number + length self.new.rest.now ≤ 1000000000 }
@@ -149,7 +149,7 @@ impl<'a> Lines<'a> {
         ensures err { IfErr result
             (Stops (held_form version ∷ []) (self.old.number + 1) (whole_lines self.old.rest.now)) }
         ensures read { IfOk result (λ held. self.old.rest.now
-            ≡ line_lem (held_words_lem (held.key, held.sel)) ++ self.new.rest.now) }
+            ≡ line_spec (held_words_spec (held.key, held.sel)) ++ self.new.rest.now) }
         ensures fits { IfOk result (λ held. HeldFits version (held.key, held.sel)) }
         ensures room { self.new.number + length self.new.rest.now ≤ 1000000000 }
     {
@@ -169,7 +169,7 @@ impl<'a> Lines<'a> {
         ensures err { IfErr result (Stops (entry_form version kernels ∷ []) (self.old.number + 1)
             (whole_lines self.old.rest.now)) }
         ensures read { IfOk result
-            (λ e. self.old.rest.now ≡ line_lem (entry_words e) ++ self.new.rest.now) }
+            (λ e. self.old.rest.now ≡ line_spec (entry_words e) ++ self.new.rest.now) }
         ensures behind { OnOk result
             (whole_lines self.new.rest.now ≡ drop 1 (whole_lines self.old.rest.now)) }
         ensures room { self.new.number + length self.new.rest.now ≤ 1000000000 }
@@ -253,7 +253,7 @@ impl<'a> Lines<'a> {
         ensures err { IfErr result (Stops (replicate number (held_form version))
             (self.old.number + 1) (whole_lines self.old.rest.now)) }
         ensures read { IfOk result (λ held. self.old.rest.now
-            ≡ text (map held_words_lem (held_pairs held)) ++ self.new.rest.now) }
+            ≡ text (map held_words_spec (held_pairs held)) ++ self.new.rest.now) }
         ensures count { IfOk result (λ held. length held ≡ number) }
         ensures fits { IfOk result (λ held. All (HeldFits version) (held_pairs held)) }
         ensures room { self.new.number + length self.new.rest.now ≤ 1000000000 }

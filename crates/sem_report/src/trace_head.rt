@@ -5,7 +5,7 @@ ghost use Rattle.sem_trace.specs.TextLines.{words_of};
 ghost use Rattle.sem_trace.specs.Forms.{form_fault, word_fault};
 ghost use Rattle.sem_trace.specs.Places.{told_fault};
 ghost use Rattle.sem_report.specs.WholeLines.{whole_lines, content};
-ghost use Rattle.sem_report.specs.ReportRefusal.{trace_form, head_fault as head_fault_lem};
+ghost use Rattle.sem_report.specs.ReportRefusal.{trace_form, head_fault as head_fault_spec};
 
 use crate::lines::next_whole_line;
 use sem_trace::{Cause, LineFault, TraceFault, Words, bytes_fault, is_significant};
@@ -45,7 +45,7 @@ fn is_first(line: &[u8], version: u8) -> Result<(), LineFault>
 pub fn head_fault(section: &[u8], version: u8, first: u64) -> Option<TraceFault>
     requires version { (version ≡ 1) ⊎ (version ≡ 2) }
     requires room { first + length section.now ≤ 1000000000 }
-    ensures { result ≡ head_fault_lem version first (map content (whole_lines section.now)) }
+    ensures { result ≡ head_fault_spec version first (map content (whole_lines section.now)) }
 {
     let mut rest = section;
     let mut number = first;

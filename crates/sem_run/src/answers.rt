@@ -3,7 +3,7 @@ ghost use Rattle.std.specs.Prelude.{◌≡◌, [], Some, OnOk};
 ghost use Rattle.sem_machine.specs.Schedules.{IsSchedule};
 ghost use Rattle.sem_cli.specs.declared.forms.Command.TheVariants.{Ask};
 ghost use Rattle.sem_run.specs.Inputs.{given};
-ghost use Rattle.sem_run.specs.Reports.{is_accepted as is_accepted_lem};
+ghost use Rattle.sem_run.specs.Reports.{is_accepted as is_accepted_spec};
 ghost use Rattle.sem_run.specs.Ends.{IsAnswer};
 ghost use Rattle.sem_run.specs.Readings.{Responds, Tells, TellsVerdict};
 ghost use Rattle.sem_run.specs.Findings.{question_of, IsFound, IsAskable};
@@ -55,7 +55,7 @@ fn tell_verdict(alloc: Global, finding: &Finding, verdict: &Verdict) -> Response
 
 // Whether the bytes are the report of a complete schedule.
 fn is_accepted(verdict: &Verdict) -> bool
-    ensures { result ≡ is_accepted_lem verdict.now }
+    ensures { result ≡ is_accepted_spec verdict.now }
 {
     matches!(verdict, Verdict::Accepted { .. })
 }

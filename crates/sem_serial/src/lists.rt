@@ -9,8 +9,8 @@ ghost use Rattle.sem_machine.specs.Seeded.{picked};
 ghost use Rattle.sem_kernel.specs.Listing.{enabled_of};
 ghost use Rattle.sem_kernel.specs.Worlds.{world_of, AreKernelsOf, NamesPeer};
 ghost use Rattle.sem_serial.specs.Listed.{AreListed, most_enabled, most_listed};
-ghost use Rattle.sem_serial.specs.Listed.{comes_due as comes_due_lem};
-ghost use Rattle.sem_serial.specs.Listed.{touched_peer as touched_peer_lem};
+ghost use Rattle.sem_serial.specs.Listed.{comes_due as comes_due_spec};
+ghost use Rattle.sem_serial.specs.Listed.{touched_peer as touched_peer_spec};
 
 use sem_fabric::Fabric;
 use sem_kernel::{Kernel, append_enabled};
@@ -107,7 +107,7 @@ fn renew_list(
 
 // Whether a kill comes due with the reply of the last event, if it made one.
 fn comes_due(setup: &Setup, fabric: &Fabric, replied: bool) -> bool
-    ensures { result ≡ comes_due_lem setup.now (length (replies_in fabric.now.journal)) replied }
+    ensures { result ≡ comes_due_spec setup.now (length (replies_in fabric.now.journal)) replied }
 {
     replied && is_kill_number(setup, fabric.replies())
 }
@@ -125,7 +125,7 @@ fn touched_peer(setup: &Setup, kernels: &[Kernel], fabric: &Fabric, event: Event
     requires together { AreKernelsOf setup.now kernels.now fabric.now }
     requires own { event.kernel < setup.now.kernels }
     requires peer { NamesPeer setup.now.kernels event.kernel event.act }
-    ensures { result ≡ touched_peer_lem setup.now (world_of kernels.now fabric.now) event.kernel
+    ensures { result ≡ touched_peer_spec setup.now (world_of kernels.now fabric.now) event.kernel
         event.act }
 {
     match event.act {

@@ -3,18 +3,19 @@ ghost use Rattle.std.specs.Prelude.{◌≡◌, false, option_copied};
 ghost use Rattle.std.specs.Option.{option_map_or};
 ghost use Rattle.sem_key.specs.KeyName.{key_eq};
 ghost use Rattle.sem_msg.specs.Lookups.{owner_of};
-ghost use Rattle.sem_msg.specs.ParkedStates.{is_ready_with as is_ready_with_lem};
+ghost use Rattle.sem_msg.specs.ParkedStates.{is_ready_with as is_ready_with_spec};
 ghost use Rattle.sem_machine.specs.Sides.{no_side};
 ghost use Rattle.sem_machine.specs.Machine.{side};
 ghost use Rattle.sem_machine.specs.Journals.{ends};
-ghost use Rattle.sem_query.specs.Whereabouts.{brings as brings_lem};
-ghost use Rattle.sem_query.specs.Changes.{is_revoking as is_revoking_lem, grants_key};
+ghost use Rattle.sem_query.specs.Whereabouts.{brings as brings_spec};
+ghost use Rattle.sem_query.specs.Changes.{is_revoking as is_revoking_spec, grants_key};
 ghost use Rattle.sem_story.specs.Stages.{seen_by};
-ghost use Rattle.sem_story.specs.Changes.{is_brought_by as is_brought_by_lem};
-ghost use Rattle.sem_story.specs.Changes.{asks_for as asks_for_lem, is_asked_by as is_asked_by_lem};
-ghost use Rattle.sem_story.specs.Changes.{begins_at as begins_at_lem, resumes as resumes_lem};
-ghost use Rattle.sem_story.specs.Changes.{leaves_by as leaves_by_lem};
-ghost use Rattle.sem_story.specs.Changes.{stage_after as stage_after_lem};
+ghost use Rattle.sem_story.specs.Changes.{is_brought_by as is_brought_by_spec};
+ghost use Rattle.sem_story.specs.Changes.{asks_for as asks_for_spec};
+ghost use Rattle.sem_story.specs.Changes.{is_asked_by as is_asked_by_spec};
+ghost use Rattle.sem_story.specs.Changes.{begins_at as begins_at_spec, resumes as resumes_spec};
+ghost use Rattle.sem_story.specs.Changes.{leaves_by as leaves_by_spec};
+ghost use Rattle.sem_story.specs.Changes.{stage_after as stage_after_spec};
 
 use sem_draw::State;
 use sem_kernel::{Kernel, World};
@@ -74,7 +75,7 @@ fn kernel_at(world: &World, number: u32) -> Option<&Kernel>
 
 // Whether a call in that state is ready to install the key.
 fn is_ready_with(key: Key, state: &Option<Parked>) -> bool
-    ensures { result ≡ is_ready_with_lem key state.now }
+    ensures { result ≡ is_ready_with_spec key state.now }
 {
     match state {
         Some(Parked::ObtainReady { key: ready, .. }) => same_key(ready, &key),
@@ -106,7 +107,7 @@ pub fn object_given(world: &World, kernel: u32, parent: Key, child: Key) -> Opti
 /// The stage of the key after the entry. `before` is its stage before it, and `seen` is what its
 /// kernel tells after it.
 pub fn stage_after(setup: &Setup, key: Key, entry: &Entry, before: Stage, seen: Stage) -> Stage
-    ensures { result ≡ stage_after_lem setup.now key entry.now before seen }
+    ensures { result ≡ stage_after_spec setup.now key entry.now before seen }
 {
     if seen != Stage::Nowhere {
         return seen;
@@ -134,7 +135,7 @@ fn grants(entry: &Entry, key: Key) -> bool
 
 // Whether the entry handles the message that brings the key.
 fn is_brought_by(entry: &Entry, key: Key) -> bool
-    ensures { result ≡ is_brought_by_lem key entry.now.event.act entry.now.detail }
+    ensures { result ≡ is_brought_by_spec key entry.now.event.act entry.now.detail }
 {
     match (entry.event.act, entry.detail) {
         (Act::Handle, Detail::Carried { message, .. }) => brings(&message, key),
@@ -143,7 +144,7 @@ fn is_brought_by(entry: &Entry, key: Key) -> bool
 }
 
 fn brings(message: &Message, key: Key) -> bool
-    ensures { result ≡ brings_lem key message.now }
+    ensures { result ≡ brings_spec key message.now }
 {
     match message {
         Message::ObtainOk { key: brought, .. } => same_key(brought, &key),
@@ -154,7 +155,7 @@ fn brings(message: &Message, key: Key) -> bool
 
 // Whether the entry lets a call that is ready to install the key do so, or cancels it, or ends it.
 fn leaves_by(setup: &Setup, entry: &Entry, key: Key) -> bool
-    ensures { result ≡ leaves_by_lem setup.now key entry.now }
+    ensures { result ≡ leaves_by_spec setup.now key entry.now }
 {
     setup.owner_of(key) == entry.event.kernel
         && (resumes(entry, key.vpe) || is_revoking(entry) && begins_at(entry, key))
@@ -162,7 +163,7 @@ fn leaves_by(setup: &Setup, entry: &Entry, key: Key) -> bool
 
 // Whether the entry lets a call of the VPE go on.
 fn resumes(entry: &Entry, vpe: u16) -> bool
-    ensures { result ≡ resumes_lem vpe entry.now.event.act }
+    ensures { result ≡ resumes_spec vpe entry.now.event.act }
 {
     match entry.event.act {
         Act::Resume { vpe: resumed } => resumed == vpe,
@@ -172,7 +173,7 @@ fn resumes(entry: &Entry, vpe: u16) -> bool
 
 // Whether the entry may mark keys, or take them away.
 fn is_revoking(entry: &Entry) -> bool
-    ensures { result ≡ is_revoking_lem entry.now }
+    ensures { result ≡ is_revoking_spec entry.now }
 {
     match (entry.event.act, entry.detail) {
         (Act::Call { .. }, Detail::Called { call, .. }) => match call {
@@ -190,7 +191,7 @@ fn is_revoking(entry: &Entry) -> bool
 
 // Whether the entry begins to revoke at the key.
 fn begins_at(entry: &Entry, key: Key) -> bool
-    ensures { result ≡ begins_at_lem key entry.now }
+    ensures { result ≡ begins_at_spec key entry.now }
 {
     is_cut_at(entry, key) || is_asked_by(entry, key) || ends_vpe(entry, key.vpe)
 }
@@ -207,7 +208,7 @@ fn is_cut_at(entry: &Entry, key: Key) -> bool
 
 // Whether the entry handles a message that asks to revoke the key.
 fn is_asked_by(entry: &Entry, key: Key) -> bool
-    ensures { result ≡ is_asked_by_lem key entry.now.event.act entry.now.detail }
+    ensures { result ≡ is_asked_by_spec key entry.now.event.act entry.now.detail }
 {
     match (entry.event.act, entry.detail) {
         (Act::Handle, Detail::Carried { message, .. }) => asks_for(&message, key),
@@ -217,7 +218,7 @@ fn is_asked_by(entry: &Entry, key: Key) -> bool
 
 // Whether the message asks to revoke the key.
 fn asks_for(message: &Message, key: Key) -> bool
-    ensures { result ≡ asks_for_lem key message.now }
+    ensures { result ≡ asks_for_spec key message.now }
 {
     match message {
         Message::RevokeReq { key: asked, .. } => same_key(asked, &key),

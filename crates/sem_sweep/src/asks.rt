@@ -7,8 +7,8 @@ ghost use Rattle.sem_msg.specs.declared.message.Target.{Target};
 ghost use Rattle.sem_msg.specs.declared.state.Ask.TheVariants.{Obtain as ObtainAsk};
 ghost use Rattle.sem_msg.specs.declared.state.Ask.TheVariants.{Delegate as DelegateAsk};
 ghost use Rattle.sem_msg.specs.Codes.{code_number};
-ghost use Rattle.sem_msg.specs.Lookups.{owner_of as owner_of_lem};
-ghost use Rattle.sem_msg.specs.Lookups.{place_owner as place_owner_lem};
+ghost use Rattle.sem_msg.specs.Lookups.{owner_of as owner_of_spec};
+ghost use Rattle.sem_msg.specs.Lookups.{place_owner as place_owner_spec};
 ghost use Rattle.sem_msg.specs.Outboxes.{HasBoxes};
 ghost use Rattle.sem_msg.specs.ParkedStates.{parked_as, state_of};
 ghost use Rattle.sem_msg.specs.declared.state.Parked.TheVariants.{Ready};
@@ -92,7 +92,7 @@ fn end_obtain(
     outs: &mut Outboxes,
 )
     requires home { AreOurs setup.now kernel vpes.old }
-    requires owner { place_owner_lem setup.now place < setup.now.kernels }
+    requires owner { place_owner_spec setup.now place < setup.now.kernels }
     requires boxes { HasBoxes setup.now outs.old }
     requires spare { 0 < outs.old.spare }
     ensures row { (target : Target) (s : Side) →
@@ -144,7 +144,7 @@ fn refuse(vpe: u16, park: &mut Park)
 
 // Answers the ask of a delegate: tells its kernel, or refuses the call here, if it waits.
 fn end_offer(setup: &Setup, kernel: u32, parent: Key, park: &mut Park, outs: &mut Outboxes)
-    requires owner { owner_of_lem setup.now parent < setup.now.kernels }
+    requires owner { owner_of_spec setup.now parent < setup.now.kernels }
     requires boxes { HasBoxes setup.now outs.old }
     requires spare { 0 < outs.old.spare }
     ensures row { (object : ObjectOf) (sel : ℕ) (s : Side) →

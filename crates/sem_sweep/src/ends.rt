@@ -1,7 +1,7 @@
 ghost use Rattle.std.specs.Prelude.{◌≡◌, ◌<◌, ◌≤◌, ◌+◌, All, length};
 ghost use Rattle.sem_key.specs.declared.limits.TheConstants.{VPES};
 ghost use Rattle.sem_msg.specs.JobRows.{waiter_left};
-ghost use Rattle.sem_msg.specs.Lookups.{kernel_of as kernel_of_lem};
+ghost use Rattle.sem_msg.specs.Lookups.{kernel_of as kernel_of_spec};
 ghost use Rattle.sem_msg.specs.Outboxes.{HasBoxes};
 ghost use Rattle.sem_msg.specs.ParkedStates.{state_of};
 ghost use Rattle.sem_msg.specs.VpeRows.{row};
@@ -31,7 +31,7 @@ pub fn end_vpe(
     outs: &mut Outboxes,
 )
     requires home { AreOurs setup.now kernel vpes.old }
-    requires vpe { kernel_of_lem setup.now vpe ≡ kernel }
+    requires vpe { kernel_of_spec setup.now vpe ≡ kernel }
     requires asks { All (HasAsker setup.now) (row vpes.old.rows vpe).asks }
     requires call { CanOwe setup.now (state_of park.old vpe) }
     requires boxes { HasBoxes setup.now outs.old }

@@ -4,7 +4,7 @@ ghost use Rattle.sem_msg.specs.declared.message.Message.TheVariants.{Ack, Delega
 ghost use Rattle.sem_msg.specs.declared.message.Message.TheVariants.{Orphan, RevokeDone, Unlink};
 ghost use Rattle.sem_msg.specs.declared.code.Code.TheVariants.{Dead};
 ghost use Rattle.sem_msg.specs.Codes.{code_number};
-ghost use Rattle.sem_msg.specs.Lookups.{owner_of as owner_of_lem};
+ghost use Rattle.sem_msg.specs.Lookups.{owner_of as owner_of_spec};
 ghost use Rattle.sem_msg.specs.Message.{Fits};
 ghost use Rattle.sem_msg.specs.Outboxes.{HasBoxes, box_for, with_box};
 
@@ -84,12 +84,12 @@ pub fn tell(setup: &Setup, to: u32, message: Message, outs: &mut Outboxes)
 // Sends the message to the kernel that owns the key.
 pub fn tell_owner(setup: &Setup, key: Key, message: Message, outs: &mut Outboxes)
     requires fits { Fits message }
-    requires owner { owner_of_lem setup.now key < setup.now.kernels }
+    requires owner { owner_of_spec setup.now key < setup.now.kernels }
     requires boxes { HasBoxes setup.now outs.old }
     requires spare { 0 < outs.old.spare }
     ensures sent { outs.new.boxes
-        ≡ with_box outs.old.boxes (owner_of_lem setup.now key)
-        (box_for outs.old.boxes (owner_of_lem setup.now key) ++ message ∷ []) }
+        ≡ with_box outs.old.boxes (owner_of_spec setup.now key)
+        (box_for outs.old.boxes (owner_of_spec setup.now key) ++ message ∷ []) }
     ensures boxes { HasBoxes setup.now outs.new }
     ensures spare { outs.new.spare + 1 ≡ outs.old.spare }
 {

@@ -17,7 +17,7 @@ ghost use Rattle.sem_machine.specs.Stores.{with_outs, with_vpes};
 ghost use Rattle.sem_machine.specs.Revokes.{HasOwner, all_woken, closed_here, finish, left_parent};
 ghost use Rattle.sem_machine.specs.Revokes.{parent_left, spared, up_told};
 ghost use Rattle.sem_sweep.specs.Sweeping.{CanSweepCap, IsUpOf};
-ghost use Rattle.sem_sweep.specs.Sweeping.{is_remote as is_remote_lem, marked_removed};
+ghost use Rattle.sem_sweep.specs.Sweeping.{is_remote as is_remote_spec, marked_removed};
 ghost use Rattle.sem_sweep.specs.Sweeping.{parent_messages, sweeping, up_messages};
 
 use crate::messages::{tell, tell_owner, token, unlinking};
@@ -195,7 +195,7 @@ fn wake(vpe: u16, park: &mut Park)
 
 // Whether the job that waits is of another kernel.
 fn is_remote(up: Option<Up>) -> bool
-    ensures { result ≡ is_remote_lem up }
+    ensures { result ≡ is_remote_spec up }
 {
     matches!(up, Some(Up::Remote { .. }))
 }

@@ -1,7 +1,7 @@
 ghost use Rattle.std.specs.Prelude.{◌≡◌, ◌≤◌, ◌==◌, length, not};
 ghost use Rattle.std.specs.List.{prefix_len, position_or_len};
 ghost use Rattle.sem_text.specs.Lines.{line_from};
-ghost use Rattle.sem_text.specs.Words.{word_from, is_blank as is_blank_lem};
+ghost use Rattle.sem_text.specs.Words.{word_from, is_blank as is_blank_spec};
 
 /// Where the line that begins at `from` ends, and where the next begins; none at the end of the
 /// text. A rest after the last line end is a line too. Takes no memory.
@@ -40,7 +40,7 @@ fn line_len(bytes: &[u8]) -> usize
 // How many blanks and tabs are at the front.
 fn blanks_len(bytes: &[u8]) -> usize
     ensures within { result ≤ length bytes.now }
-    ensures front { result ≡ prefix_len is_blank_lem bytes.now }
+    ensures front { result ≡ prefix_len is_blank_spec bytes.now }
 {
     bytes.iter().take_while(|byte| is_blank(**byte)).count()
 }
@@ -48,14 +48,14 @@ fn blanks_len(bytes: &[u8]) -> usize
 // How many bytes at the front are neither blanks nor tabs.
 fn word_len(bytes: &[u8]) -> usize
     ensures within { result ≤ length bytes.now }
-    ensures front { result ≡ prefix_len (λ b. not (is_blank_lem b)) bytes.now }
+    ensures front { result ≡ prefix_len (λ b. not (is_blank_spec b)) bytes.now }
 {
     bytes.iter().take_while(|byte| !is_blank(**byte)).count()
 }
 
 // A blank or a tab.
 fn is_blank(byte: u8) -> bool
-    ensures { result ≡ is_blank_lem byte }
+    ensures { result ≡ is_blank_spec byte }
 {
     byte == b' ' || byte == b'\t'
 }

@@ -3,7 +3,7 @@ ghost use Rattle.std.specs.Prelude.{OnErr, Ok, Err, if◌then◌else◌};
 ghost use Rattle.std.specs.List.{list_all};
 ghost use Rattle.std.specs.Vec.{vec_len, vec_capacity};
 ghost use Rattle.sem_text.specs.Number.{number_of, is_digit, three_digits};
-ghost use Rattle.sem_text.specs.Number.{is_number as is_number_lem};
+ghost use Rattle.sem_text.specs.Number.{is_number as is_number_spec};
 ghost use Rattle.sem_text.specs.declared.numbers.NumberFault.TheVariants.{Range};
 
 use itoa::Buffer;
@@ -89,7 +89,7 @@ fn long_number(word: &[u8], most: u64) -> Result<u64, NumberFault>
 
 /// Whether the word is a number, however large. Takes no memory.
 pub fn is_number(word: &[u8]) -> bool
-    ensures { result ≡ is_number_lem word.now }
+    ensures { result ≡ is_number_spec word.now }
 {
     match word {
         [] => false,

@@ -6,8 +6,8 @@ ghost use Rattle.std.specs.Result.{result_err};
 ghost use Rattle.sem_key.specs.KeyName.{kind_number};
 ghost use Rattle.sem_trace.specs.Words.{key_word, place_word};
 ghost use Rattle.sem_trace.specs.Forms.{place_fault, parts_of, are_numbers, is_between};
-ghost use Rattle.sem_trace.specs.Forms.{key as key_lem, key_place};
-ghost use Rattle.sem_text.specs.Number.{is_number as is_number_lem};
+ghost use Rattle.sem_trace.specs.Forms.{key as key_spec, key_place};
+ghost use Rattle.sem_text.specs.Number.{is_number as is_number_spec};
 ghost use Rattle.sem_trace.specs.declared.fault.Cause.TheVariants.{BadNumber, OutOfRange};
 ghost use Rattle.sem_trace.specs.Ranges.{IsKeyInText, IsPlaceInText};
 ghost use Rattle.sem_trace.specs.Places.{Reads, IsWithin, bounds};
@@ -52,7 +52,7 @@ fn split_point(text: &[u8]) -> Option<(&[u8], &[u8])>
 // The number before the first point, and the text after it.
 fn first_part(text: &[u8]) -> Result<(&[u8], &[u8]), Cause>
     ensures parts { IfOk result (λ p. parts_of text.now ≡ p.0.now ∷ parts_of p.1.now) }
-    ensures number { IfOk result (λ p. is_number_lem p.0.now ≡ true) }
+    ensures number { IfOk result (λ p. is_number_spec p.0.now ≡ true) }
     ensures cause { IfErr result (λ cause. cause ≡ BadNumber) }
     ensures err { IfErr result (λ _. (a b : ℕ × ℕ) (ranges : List (ℕ × ℕ)) →
         are_numbers (a ∷ b ∷ ranges) (parts_of text.now) ≡ false) }
@@ -70,7 +70,7 @@ fn first_part(text: &[u8]) -> Result<(&[u8], &[u8]), Cause>
 // The last number.
 fn last_part(text: &[u8]) -> Result<&[u8], Cause>
     ensures part { IfOk result (λ part. parts_of text.now ≡ part.now ∷ []) }
-    ensures number { IfOk result (λ part. is_number_lem part.now ≡ true) }
+    ensures number { IfOk result (λ part. is_number_spec part.now ≡ true) }
     ensures cause { IfErr result (λ cause. cause ≡ BadNumber) }
     ensures err { IfErr result (λ _. (a : ℕ × ℕ) →
         are_numbers (a ∷ []) (parts_of text.now) ≡ false) }
@@ -84,7 +84,7 @@ fn last_part(text: &[u8]) -> Result<&[u8], Cause>
 
 // The number of a part, if it is in its range.
 fn part_in(part: &[u8], range: Range) -> Result<u64, Cause>
-    requires { is_number_lem part.now ≡ true }
+    requires { is_number_spec part.now ≡ true }
     ensures ok { IfOk result (λ _. is_between (bounds range) part.now ≡ true) }
     ensures within { IfOk result (λ value. IsWithin range value) }
     ensures printed { IfOk result (λ value. part.now ≡ decimal value) }
@@ -112,7 +112,7 @@ fn kind(number: u64) -> Kind
 /// The key that the word is, in a text of the version. Takes no memory.
 #[tactic(auto, unfolding(crate::specs::Forms::are_numbers, crate::specs::Forms::are_within))]
 pub fn read_key(word: &[u8], version: u8) -> Result<Key, Cause>
-    ensures fault { place_fault (key_lem version) word.now ≡ result_err result }
+    ensures fault { place_fault (key_spec version) word.now ≡ result_err result }
     ensures printed { IfOk result (λ k. word.now ≡ key_word k) }
     ensures told { IfOk result (IsKeyInText version) }
 {
@@ -150,7 +150,7 @@ fn place(word: &[u8], version: u8) -> Result<Place, Cause>
 impl Words<'_> {
     /// The next word, a key of a text of the version.
     pub fn key(&mut self, version: u8) -> Result<Key, Cause>
-        ensures reads { Reads (key_lem version ∷ []) (λ k. key_word k ∷ []) self.old self.new
+        ensures reads { Reads (key_spec version ∷ []) (λ k. key_word k ∷ []) self.old self.new
             result }
         ensures told { IfOk result (IsKeyInText version) }
     {

@@ -5,9 +5,9 @@ ghost use Rattle.std.specs.Bool.{Decides};
 ghost use Rattle.std.specs.Result.{result_err};
 ghost use Rattle.sem_text.specs.Number.{number_value};
 ghost use Rattle.sem_key.specs.declared.limits.TheConstants.{VPES, KERNELS};
-ghost use Rattle.sem_msg.specs.declared.limits.TheConstants.{WINDOW as WINDOW_LEM};
-ghost use Rattle.sem_trace.specs.Forms.{place_fault, form_fault, node as node_lem};
-ghost use Rattle.sem_trace.specs.Forms.{kernel_count as kernel_count_lem, window as window_lem};
+ghost use Rattle.sem_msg.specs.declared.limits.TheConstants.{WINDOW as WINDOW_SPEC};
+ghost use Rattle.sem_trace.specs.Forms.{place_fault, form_fault, node as node_spec};
+ghost use Rattle.sem_trace.specs.Forms.{kernel_count as kernel_count_spec, window as window_spec};
 ghost use Rattle.sem_trace.specs.Forms.Place.{Word};
 ghost use Rattle.sem_trace.specs.Declarations.{number_at};
 ghost use Rattle.sem_trace.specs.Places.{Reads, AreNumbers, number_place, IsWithin, told_fault};
@@ -60,7 +60,7 @@ const MOST_NUMBERS: usize = 5;
 
 /// A PE, or a VPE, in a text of the version.
 pub fn node(version: u8) -> Range
-    ensures range { number_place result ≡ node_lem version }
+    ensures range { number_place result ≡ node_spec version }
     ensures most { result.most < VPES }
 {
     Range {
@@ -71,7 +71,7 @@ pub fn node(version: u8) -> Range
 
 /// How many kernels there are, in a text of the version.
 pub fn kernel_count(version: u8) -> Range
-    ensures range { number_place result ≡ kernel_count_lem version }
+    ensures range { number_place result ≡ kernel_count_spec version }
     ensures most { result.most ≤ KERNELS }
 {
     Range {
@@ -82,8 +82,8 @@ pub fn kernel_count(version: u8) -> Range
 
 /// How many messages a link holds, in a text of the version.
 pub fn window(version: u8) -> Range
-    ensures range { number_place result ≡ window_lem version }
-    ensures most { result.most ≤ WINDOW_LEM }
+    ensures range { number_place result ≡ window_spec version }
+    ensures most { result.most ≤ WINDOW_SPEC }
 {
     if version == 1 {
         Range { least: 4, most: 4 }

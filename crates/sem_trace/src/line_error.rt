@@ -3,7 +3,7 @@ ghost use Rattle.std.specs.Prelude.{◌≡◌};
 ghost use Rattle.sem_trace.specs.declared.fault.TraceError.TheVariants.{Refused as RefusedText};
 ghost use Rattle.sem_trace.specs.declared.line_error.LineError.TheVariants.{Refused, Memory};
 ghost use Rattle.sem_trace.specs.Forms.{whole_line};
-ghost use Rattle.sem_trace.specs.LineErrors.{fault_of, at_line as at_line_lem};
+ghost use Rattle.sem_trace.specs.LineErrors.{fault_of, at_line as at_line_spec};
 
 use crate::fault::{Cause, LineFault, TraceError, TraceFault};
 use sem_key::OutOfMemory;
@@ -53,7 +53,7 @@ pub fn refused(line: u64, cause: Cause) -> TraceError
 
 /// Why a text is not read, if the line of that number is not.
 pub fn at_line(line: u64, e: LineError) -> TraceError
-    ensures { result ≡ at_line_lem line e }
+    ensures { result ≡ at_line_spec line e }
 {
     match e {
         LineError::Refused(fault) => TraceError::Refused(TraceFault {

@@ -1,9 +1,9 @@
 // Lines of a text and words of a line, from the front.
 ghost use Rattle.std.specs.Prelude.{◌≡◌, ◌≤◌, true, MatchOption, ◌∷◌, [], length, take, drop};
 ghost use Rattle.std.specs.List.{list_all};
-ghost use Rattle.sem_trace.specs.TextLines.{lines_of, words_of, is_text as is_text_lem};
-ghost use Rattle.sem_trace.specs.TextLines.{is_significant as is_significant_lem};
-ghost use Rattle.sem_trace.specs.TextLines.{bytes_fault as bytes_fault_lem};
+ghost use Rattle.sem_trace.specs.TextLines.{lines_of, words_of, is_text as is_text_spec};
+ghost use Rattle.sem_trace.specs.TextLines.{is_significant as is_significant_spec};
+ghost use Rattle.sem_trace.specs.TextLines.{bytes_fault as bytes_fault_spec};
 
 use crate::fault::Cause;
 use sem_text::{line_at, word_at};
@@ -64,7 +64,7 @@ fn next_word_of_any_length(line: &[u8]) -> Option<(&[u8], &[u8])>
 
 /// Whether the line says something: it has a word, and the first is no comment. Takes no memory.
 pub fn is_significant(line: &[u8]) -> bool
-    ensures { result ≡ is_significant_lem (words_of line.now) }
+    ensures { result ≡ is_significant_spec (words_of line.now) }
 {
     match line {
         [first, ..] if *first > b' ' => *first != b'#',
@@ -73,7 +73,7 @@ pub fn is_significant(line: &[u8]) -> bool
 }
 
 fn is_significant_behind_blanks(line: &[u8]) -> bool
-    ensures { result ≡ is_significant_lem (words_of line.now) }
+    ensures { result ≡ is_significant_spec (words_of line.now) }
 {
     match next_word(line) {
         Some((word, _)) => !matches!(word, [b'#', ..]),
@@ -83,14 +83,14 @@ fn is_significant_behind_blanks(line: &[u8]) -> bool
 
 // A tab or a printable byte.
 fn is_text(byte: u8) -> bool
-    ensures { result ≡ is_text_lem byte }
+    ensures { result ≡ is_text_spec byte }
 {
     byte == b'\t' || (b' '..=b'~').contains(&byte)
 }
 
 // Whether all bytes are tabs or printable. It tests many at a time, for it has no early exit.
 fn all_text(line: &[u8]) -> bool
-    ensures { result ≡ list_all is_text_lem line.now }
+    ensures { result ≡ list_all is_text_spec line.now }
 {
     let mut all = true;
     for byte in line {
@@ -102,7 +102,7 @@ fn all_text(line: &[u8]) -> bool
 /// What is wrong with the bytes of the line, whatever it says. Takes no memory.
 #[tactic(auto, unfolding(crate::specs::TextLines::bytes_fault))]
 pub fn bytes_fault(line: &[u8]) -> Option<Cause>
-    ensures { result ≡ bytes_fault_lem line.now }
+    ensures { result ≡ bytes_fault_spec line.now }
 {
     if line.len() > LINE_BYTES {
         return Some(Cause::LineTooLong);

@@ -1,6 +1,6 @@
 ghost use Rattle.std.specs.Prelude.{◌≡◌, ◌==◌, ◌&&◌, nat_le, not, Some, None, IfSome};
 ghost use Rattle.std.specs.Prelude.{if◌then◌else◌};
-ghost use Rattle.sem_key.specs.declared.limits.TheConstants.{NUMBERS as NUMBERS_lem};
+ghost use Rattle.sem_key.specs.declared.limits.TheConstants.{NUMBERS as NUMBERS_spec};
 ghost use Rattle.sem_msg.specs.declared.code.Code.TheVariants.{Occupied, Numbers};
 ghost use Rattle.sem_msg.specs.Codes.{code_number};
 ghost use Rattle.sem_msg.specs.Message.{IsRefusal};
@@ -17,7 +17,7 @@ impl Vpes {
     pub fn destination_refusal(&self, vpe: u16, sel: u8) -> Option<Code>
         requires { IsOurs self.now vpe }
         ensures code { result ≡ (if is_taken (slot self.now.rows vpe sel) then Some Occupied
-            else if nat_le NUMBERS_lem (row self.now.rows vpe).next_number then Some Numbers
+            else if nat_le NUMBERS_spec (row self.now.rows vpe).next_number then Some Numbers
             else None) }
         ensures refusal { IfSome result (λ code. IsRefusal (code_number code)) }
     {

@@ -2,7 +2,7 @@ ghost use Rattle.std.specs.Prelude.{◌≡◌, ◌<◌, ◌≤◌, ◌↔◌, []
 ghost use Rattle.std.specs.Prelude.{slice_index_or, false, IsTrue, IfOk, IfSome, IsErr, OnOk};
 ghost use Rattle.std.specs.Prelude.{OnErr};
 ghost use Rattle.sem_msg.specs.declared.state.Slot.TheVariants.{Held};
-ghost use Rattle.sem_msg.specs.VpeRows.{row, is_alive, slot as slot_lem, is_taken, call_counted};
+ghost use Rattle.sem_msg.specs.VpeRows.{row, is_alive, slot as slot_spec, is_taken, call_counted};
 ghost use Rattle.sem_msg.specs.VpeRows.{drawn, with_slot, promised, freed, asked, ask_taken, died};
 ghost use Rattle.sem_vpe.specs.VpeTable.{IsOurs, IsVpeRow, IsVpeTable, slot_key};
 ghost use Rattle.sem_vpe.specs.Starting.{IsAsDeclared, start_place, start_table};
@@ -61,7 +61,7 @@ impl Vpes {
     /// The state of a selector.
     pub fn selector(&self, vpe: u16, sel: u8) -> Slot
         requires { IsOurs self.now vpe }
-        ensures { result ≡ slot_lem self.now.rows vpe sel }
+        ensures { result ≡ slot_spec self.now.rows vpe sel }
     {
         self.kept(vpe).selector(sel)
     }
@@ -69,7 +69,7 @@ impl Vpes {
     /// The key that the selector of the VPE holds; none if it holds none.
     pub fn held_key(&self, vpe: u16, sel: u8) -> Option<Key>
         requires { IsOurs self.now vpe }
-        ensures { result ≡ slot_key (slot_lem self.now.rows vpe sel) }
+        ensures { result ≡ slot_key (slot_spec self.now.rows vpe sel) }
     {
         match self.selector(vpe, sel) {
             Slot::Held(key) => Some(key),
@@ -113,7 +113,7 @@ impl Vpes {
     /// Promises a selector. If it is held or promised, nothing changes.
     pub fn promise(&mut self, vpe: u16, sel: u8) -> Result<(), Occupied>
         requires { IsOurs self.old vpe }
-        ensures occupied { IsErr result ↔ IsTrue (is_taken (slot_lem self.old.rows vpe sel)) }
+        ensures occupied { IsErr result ↔ IsTrue (is_taken (slot_spec self.old.rows vpe sel)) }
         ensures ok { OnOk result (self.new
             ≡ record self.old { rows = promised vpe sel self.old.rows }) }
         ensures err { OnErr result (self.new ≡ self.old) }

@@ -2,8 +2,8 @@ ghost use Rattle.std.specs.Prelude.{◌≡◌};
 ghost use Rattle.sem_key.specs.KeyName.{packed};
 ghost use Rattle.sem_msg.specs.Message.{Fits};
 ghost use Rattle.sem_msg.specs.declared.message.Message.TheVariants.{ObtainReq};
-ghost use Rattle.sem_wire.specs.Records.{blank, place_word as place_word_lem, record_of};
-ghost use Rattle.sem_wire.specs.Records.{rows_of as rows_of_lem, with_object as with_object_lem};
+ghost use Rattle.sem_wire.specs.Records.{blank, place_word as place_word_spec, record_of};
+ghost use Rattle.sem_wire.specs.Records.{rows_of as rows_of_spec, with_object as with_object_spec};
 
 use crate::rows::{RECORD, Rows, spell};
 use sem_key::{Key, Kind, Object, Place, keyed, pack};
@@ -41,14 +41,14 @@ fn tagged(tag: u8) -> Rows
 
 // The word of a place: that of a key, with 0 in place of the kind.
 fn place_word(place: Place) -> u64
-    ensures { result ≡ place_word_lem place }
+    ensures { result ≡ place_word_spec place }
 {
     pack(keyed(place, Kind::Mem)) - (1 << 32)
 }
 
 // The numbers of the message.
 fn rows_of(message: &Message) -> Rows
-    ensures rows { result ≡ rows_of_lem message.now }
+    ensures rows { result ≡ rows_of_spec message.now }
     ensures gap { result.after_kind ≡ 0 }
 {
     match *message {
@@ -102,7 +102,7 @@ fn rows_of(message: &Message) -> Rows
 
 // The numbers of a request for a capability.
 fn obtain_req(place: Place, target: Target) -> Rows
-    ensures rows { result ≡ rows_of_lem (ObtainReq place target) }
+    ensures rows { result ≡ rows_of_spec (ObtainReq place target) }
     ensures gap { result.after_kind ≡ 0 }
 {
     let rows = Rows {
@@ -143,7 +143,7 @@ fn two_keys(tag: u8, parent: Key, key: Key) -> Rows
 
 // The rows, with the numbers of the object added.
 fn with_object(object: &Object, rows: Rows) -> Rows
-    ensures { result ≡ with_object_lem object.now rows }
+    ensures { result ≡ with_object_spec object.now rows }
 {
     match *object {
         Object::Mem { base, len, rights } => Rows {

@@ -1,7 +1,7 @@
 ghost use Rattle.std.specs.Prelude.{◌≡◌};
 ghost use Rattle.std.specs.Int.{is_in_range};
 ghost use Rattle.sem_key.specs.declared.limits.TheConstants.{SLOTS};
-ghost use Rattle.sem_wire.specs.Reading.{mem_in, object_in, of_kind as of_kind_lem, recv_in};
+ghost use Rattle.sem_wire.specs.Reading.{mem_in, object_in, of_kind as of_kind_spec, recv_in};
 ghost use Rattle.sem_wire.specs.Reading.{send_in, serv_in, sess_in};
 
 use crate::fault::WireFault;
@@ -22,7 +22,7 @@ pub fn object(rows: &Rows) -> Result<Object, WireFault>
 
 // The object, by its kind.
 fn of_kind(rows: &Rows) -> Result<Object, WireFault>
-    ensures { result ≡ of_kind_lem rows.now.kind rows.now }
+    ensures { result ≡ of_kind_spec rows.now.kind rows.now }
 {
     match rows.kind {
         1 => mem(rows),

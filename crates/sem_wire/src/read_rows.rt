@@ -1,10 +1,11 @@
 ghost use Rattle.std.specs.Prelude.{◌≡◌};
 ghost use Rattle.sem_key.specs.KeyName.{kind_number};
-ghost use Rattle.sem_wire.specs.Reading.{allowed as allowed_lem, code_in, key_at as key_at_lem};
-ghost use Rattle.sem_wire.specs.Reading.{kind_key_at as kind_key_at_lem, no_index as no_index_lem};
-ghost use Rattle.sem_wire.specs.Reading.{no_job as no_job_lem, no_object as no_object_lem};
-ghost use Rattle.sem_wire.specs.Reading.{no_second as no_second_lem, place_at as place_at_lem};
-ghost use Rattle.sem_wire.specs.Reading.{unused as unused_lem};
+ghost use Rattle.sem_wire.specs.Reading.{allowed as allowed_spec, code_in, key_at as key_at_spec};
+ghost use Rattle.sem_wire.specs.Reading.{kind_key_at as kind_key_at_spec};
+ghost use Rattle.sem_wire.specs.Reading.{no_index as no_index_spec};
+ghost use Rattle.sem_wire.specs.Reading.{no_job as no_job_spec, no_object as no_object_spec};
+ghost use Rattle.sem_wire.specs.Reading.{no_second as no_second_spec, place_at as place_at_spec};
+ghost use Rattle.sem_wire.specs.Reading.{unused as unused_spec};
 
 use crate::fault::WireFault;
 use crate::rows::Rows;
@@ -12,7 +13,7 @@ use sem_key::{Key, Kind, Place, unpack};
 
 /// A used row: whether its value is allowed.
 pub fn allowed(at: u8, is_allowed: bool) -> Result<(), WireFault>
-    ensures { result ≡ allowed_lem at is_allowed }
+    ensures { result ≡ allowed_spec at is_allowed }
 {
     if is_allowed {
         Ok(())
@@ -23,7 +24,7 @@ pub fn allowed(at: u8, is_allowed: bool) -> Result<(), WireFault>
 
 /// A row that the message does not use: it must be 0.
 pub fn unused(at: u8, number: u64) -> Result<(), WireFault>
-    ensures { result ≡ unused_lem at number }
+    ensures { result ≡ unused_spec at number }
 {
     if number == 0 {
         Ok(())
@@ -34,7 +35,7 @@ pub fn unused(at: u8, number: u64) -> Result<(), WireFault>
 
 /// A row with a key.
 pub fn key_at(at: u8, word: u64) -> Result<Key, WireFault>
-    ensures { result ≡ key_at_lem at word }
+    ensures { result ≡ key_at_spec at word }
 {
     unpack(word).ok_or(WireFault::Field { at })
 }
@@ -42,7 +43,7 @@ pub fn key_at(at: u8, word: u64) -> Result<Key, WireFault>
 /// A row with a key of that kind.
 #[tactic(auto, unfolding(crate::specs::Reading::kind_key_at))]
 pub fn kind_key_at(at: u8, kind: Kind, word: u64) -> Result<Key, WireFault>
-    ensures { result ≡ kind_key_at_lem at (kind_number kind) word }
+    ensures { result ≡ kind_key_at_spec at (kind_number kind) word }
 {
     let key = key_at(at, word)?;
     allowed(at, key.kind.number() == kind.number())?;
@@ -52,7 +53,7 @@ pub fn kind_key_at(at: u8, kind: Kind, word: u64) -> Result<Key, WireFault>
 /// A row with a place: the word of a key, with 0 in place of the kind.
 #[tactic(auto, unfolding(crate::specs::Reading::place_at))]
 pub fn place_at(at: u8, word: u64) -> Result<Place, WireFault>
-    ensures { result ≡ place_at_lem at word }
+    ensures { result ≡ place_at_spec at word }
 {
     allowed(at, (word >> 32) % (1 << 8) == 0)?;
     let key = key_at(at, word + (1 << 32))?;
@@ -66,7 +67,7 @@ pub fn place_at(at: u8, word: u64) -> Result<Place, WireFault>
 /// The rows at 2, 4 and 6 of a message without a VPE and an index.
 #[tactic(auto, unfolding(crate::specs::Reading::no_index))]
 pub fn no_index(rows: &Rows) -> Result<(), WireFault>
-    ensures { result ≡ no_index_lem rows.now }
+    ensures { result ≡ no_index_spec rows.now }
 {
     unused(2, u64::from(rows.vpe))?;
     unused(4, u64::from(rows.index))?;
@@ -76,7 +77,7 @@ pub fn no_index(rows: &Rows) -> Result<(), WireFault>
 /// The rows from 28 on of a message without an object.
 #[tactic(auto, unfolding(crate::specs::Reading::no_object))]
 pub fn no_object(rows: &Rows) -> Result<(), WireFault>
-    ensures { result ≡ no_object_lem rows.now }
+    ensures { result ≡ no_object_spec rows.now }
 {
     unused(28, u64::from(rows.kind))?;
     unused(29, u64::from(rows.after_kind))?;
@@ -89,7 +90,7 @@ pub fn no_object(rows: &Rows) -> Result<(), WireFault>
 /// The rows from 24 on of a message without a job and an object.
 #[tactic(auto, unfolding(crate::specs::Reading::no_job))]
 pub fn no_job(rows: &Rows) -> Result<(), WireFault>
-    ensures { result ≡ no_job_lem rows.now }
+    ensures { result ≡ no_job_spec rows.now }
 {
     unused(24, u64::from(rows.job))?;
     no_object(rows)
@@ -97,7 +98,7 @@ pub fn no_job(rows: &Rows) -> Result<(), WireFault>
 
 /// The rows from 16 on of a message with one key or one place alone.
 pub fn no_second(rows: &Rows) -> Result<(), WireFault>
-    ensures { result ≡ no_second_lem rows.now }
+    ensures { result ≡ no_second_spec rows.now }
 {
     unused(16, rows.second)?;
     no_job(rows)

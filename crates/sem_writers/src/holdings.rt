@@ -3,7 +3,7 @@ ghost use Rattle.std.specs.Prelude.{◌≡◌, ◌+◌, ◌≤◌, ◌++◌, ◌
 ghost use Rattle.std.specs.Prelude.{if◌then◌else◌, IfOk, OnOk};
 ghost use Rattle.sem_key.specs.declared.limits.TheConstants.{ADDRESSES};
 ghost use Rattle.sem_machine.specs.Schedules.{IsSchedule};
-ghost use Rattle.sem_access.specs.Accesses.{accesses as accesses_lem};
+ghost use Rattle.sem_access.specs.Accesses.{accesses as accesses_spec};
 ghost use Rattle.sem_access.specs.LastWrites.{is_write_at, greatest_entry, last_write, looked};
 ghost use Rattle.sem_access.specs.Runs.{all_runs, entry_at, IsNewer};
 ghost use Rattle.sem_access.specs.ContentsText.{found_by};
@@ -38,7 +38,7 @@ pub fn holdings_after(
     ensures memory { IfOk result (λ h. (a : ℕ) → entry_at h.memory a
         ≡ last_write setup.now journal.now.entries (length journal.now.entries) a) }
     ensures accesses { IfOk result (λ h.
-        h.accesses ≡ accesses_lem setup.now journal.now.entries) }
+        h.accesses ≡ accesses_spec setup.now journal.now.entries) }
     ensures writers { IfOk result (λ h. All (IsWriter h.accesses) h.rows.items) }
     ensures looks { IfOk result (λ h. h.looks.items ≡ map (found_by h.accesses) h.accesses) }
 {

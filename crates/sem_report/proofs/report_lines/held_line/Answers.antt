@@ -1,7 +1,7 @@
 use Rattle.std.proofs.Common.{◌≡◌, ◌∙◌, refl}
 use Rattle.std.proofs.lemmas.Result.{err_from_is_err_and}
 use Rattle.sem_text.specs.Lines.{line}
-use Rattle.sem_journal.specs.ReportText.{held_line as held_words_lem}
+use Rattle.sem_journal.specs.ReportText.{held_line as held_words_spec}
 use Rattle.sem_journal.specs.EntryForms.{has_long_memory}
 use Rattle.sem_report.specs.ReportRefusal.{held_form, words_in}
 use Rattle.sem_report.proofs.LineForms.{bytes_bad, words_bad, spelling_bad, line_good}
@@ -21,19 +21,19 @@ pub returns-in_err-is_canonical-clause-err : goal.returns-in_err-is_canonical-cl
 unfolding has_long_memory
 returns-in_err-is_canonical-clause-err c =
     let p = err_from_is_err_and c.from_residual-in_err-is_canonical.result c.from_residual-in_err-is_canonical.ensures.1 in
-    let words : words_in c.args.line.now.whole.now ≡ held_words_lem (c.in_ok-held.held.key, c.in_ok-held.held.sel) =
+    let words : words_in c.args.line.now.whole.now ≡ held_words_spec (c.in_ok-held.held.key, c.in_ok-held.held.sel) =
     rw c.requires at c.in_ok-held.ensures.printed in
-    let text : c.deref.result.now ≡ line (held_words_lem (c.in_ok-held.held.key, c.in_ok-held.held.sel)) = c.deref.ensures.value
+    let text : c.deref.result.now ≡ line (held_words_spec (c.in_ok-held.held.key, c.in_ok-held.held.sel)) = c.deref.ensures.value
     ∙ (c.in_ok-push_held.ensures.ok ∙ (rw c.clear.ensures.items refl)) in
-    rw (p.1, p.2) (spelling_bad (held_form c.args.version) c.args.line.now.whole.now (held_words_lem (c.in_ok-held.held.key, c.in_ok-held.held.sel)) _
+    rw (p.1, p.2) (spelling_bad (held_form c.args.version) c.args.line.now.whole.now (held_words_spec (c.in_ok-held.held.key, c.in_ok-held.held.sel)) _
     c.in_ok-is_text.ensures (rw c.requires at c.in_ok-held.ensures.fault) words refl (rw text at c.in_err-is_canonical.ensures))
 
 pub returns-clause-ok : goal.returns-clause-ok
 unfolding has_long_memory
 returns-clause-ok c =
-    let words : words_in c.args.line.now.whole.now ≡ held_words_lem (c.in_ok-held.held.key, c.in_ok-held.held.sel) =
+    let words : words_in c.args.line.now.whole.now ≡ held_words_spec (c.in_ok-held.held.key, c.in_ok-held.held.sel) =
     rw c.requires at c.in_ok-held.ensures.printed in
-    let text : c.deref.result.now ≡ line (held_words_lem (c.in_ok-held.held.key, c.in_ok-held.held.sel)) = c.deref.ensures.value
+    let text : c.deref.result.now ≡ line (held_words_spec (c.in_ok-held.held.key, c.in_ok-held.held.sel)) = c.deref.ensures.value
     ∙ (c.in_ok-push_held.ensures.ok ∙ (rw c.clear.ensures.items refl)) in
-    line_good (held_form c.args.version) c.args.line.now.whole.now (held_words_lem (c.in_ok-held.held.key, c.in_ok-held.held.sel)) c.in_ok-is_text.ensures
+    line_good (held_form c.args.version) c.args.line.now.whole.now (held_words_spec (c.in_ok-held.held.key, c.in_ok-held.held.sel)) c.in_ok-is_text.ensures
     (rw c.requires at c.in_ok-held.ensures.fault) words refl (rw text at c.in_ok-is_canonical.ensures)

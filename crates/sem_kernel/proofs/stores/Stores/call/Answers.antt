@@ -1,6 +1,8 @@
 use Rattle.std.proofs.Common.{◌∙◌, ap, sym, rules}
 use Rattle.sem_key.specs.ObjectRanges.{IsValidObject}
+use Rattle.sem_delegate.specs.Delegating.{IsOfKind}
 use Rattle.sem_machine.specs.Calls.{call_row}
+use Rattle.sem_machine.specs.Sound.{IsSoundObject}
 use Rattle.sem_kernel.specs.KernelStores.{side_of}
 use Rattle.sem_kernel.proofs.Meets.{declared-here, next-absent, own-sound}
 use Rattle.sem_kernel.proofs.stores.Stores.call.Goals as goal
@@ -12,6 +14,33 @@ derive_call-requires-clause-declared c =
 pub derive_call-requires-clause-free : goal.derive_call-requires-clause-free
 derive_call-requires-clause-free c = next-absent c.args.setup.now c.requires.can.are.setup c.args.kernel c.requires.can.are.is_one
     (side_of c.args.self.now) c.requires.can.are.sound c.args.vpe
+
+pub gate_call-requires-clause-declared : goal.gate_call-requires-clause-declared
+gate_call-requires-clause-declared c = declared-here c.args.setup.now c.requires.can.are.setup c.args.kernel c.requires.can.are.is_one c.args.vpe c.requires.can.here
+
+pub gate_call-requires-clause-free : goal.gate_call-requires-clause-free
+gate_call-requires-clause-free c = next-absent c.args.setup.now c.requires.can.are.setup c.args.kernel c.requires.can.are.is_one
+    (side_of c.args.self.now) c.requires.can.are.sound c.args.vpe
+
+pub obtain_call-requires-clause-declared : goal.obtain_call-requires-clause-declared
+obtain_call-requires-clause-declared c = declared-here c.args.setup.now c.requires.can.are.setup c.args.kernel c.requires.can.are.is_one c.args.vpe c.requires.can.here
+
+pub open_call-requires-clause-declared : goal.open_call-requires-clause-declared
+open_call-requires-clause-declared c = declared-here c.args.setup.now c.requires.can.are.setup c.args.kernel c.requires.can.are.is_one c.args.vpe c.requires.can.here
+
+pub offer_call-requires-clause-declared : goal.offer_call-requires-clause-declared
+offer_call-requires-clause-declared c = declared-here c.args.setup.now c.requires.can.are.setup c.args.kernel c.requires.can.are.is_one c.args.vpe c.requires.can.here
+
+pub offer_call-requires-clause-session : goal.offer_call-requires-clause-session
+offer_call-requires-clause-session c = own-sound c.args.setup.now c.requires.can.are.setup c.args.kernel c.requires.can.are.is_one
+    (side_of c.args.self.now) c.requires.can.are.sound c.args.vpe c.in-AskOffer.session (λ p. IsSoundObject c.args.setup.now p.object) (λ p among sound. sound.object)
+
+pub delegate_call-requires-clause-declared : goal.delegate_call-requires-clause-declared
+delegate_call-requires-clause-declared c = declared-here c.args.setup.now c.requires.can.are.setup c.args.kernel c.requires.can.are.is_one c.args.vpe c.requires.can.here
+
+pub delegate_call-requires-clause-valid : goal.delegate_call-requires-clause-valid
+delegate_call-requires-clause-valid c = own-sound c.args.setup.now c.requires.can.are.setup c.args.kernel c.requires.can.are.is_one
+    (side_of c.args.self.now) c.requires.can.are.sound c.args.vpe c.in-Delegate.src IsOfKind (λ p among sound. (sound.object.0, sound.kind))
 
 pub bind_call-requires-clause-valid : goal.bind_call-requires-clause-valid
 bind_call-requires-clause-valid c = own-sound c.args.setup.now c.requires.can.are.setup c.args.kernel c.requires.can.are.is_one
@@ -68,41 +97,41 @@ returns-in-Credit c = record {
 pub returns-in-Gate : goal.returns-in-Gate
 unfolding call_row
 returns-in-Gate c = record {
-  row = c.gate.ensures.row
+  row = c.gate_call.ensures.row (side_of c.args.self.now)
       ∙ ap (call_row c.args.setup.now c.args.kernel (side_of c.args.self.now) c.args.vpe) (sym c.in-Gate.is);
-  stores = c.gate.ensures.stores;
+  stores = search rules;
 }
 
 pub returns-in-Obtain : goal.returns-in-Obtain
 unfolding call_row
 returns-in-Obtain c = record {
-  row = c.obtain.ensures.row
+  row = c.obtain_call.ensures.row (side_of c.args.self.now)
       ∙ ap (call_row c.args.setup.now c.args.kernel (side_of c.args.self.now) c.args.vpe) (sym c.in-Obtain.is);
-  stores = c.obtain.ensures.stores;
+  stores = search rules;
 }
 
 pub returns-in-OpenSession : goal.returns-in-OpenSession
 unfolding call_row
 returns-in-OpenSession c = record {
-  row = c.open.ensures.row
+  row = c.open_call.ensures.row (side_of c.args.self.now)
       ∙ ap (call_row c.args.setup.now c.args.kernel (side_of c.args.self.now) c.args.vpe) (sym c.in-OpenSession.is);
-  stores = c.open.ensures.stores;
+  stores = search rules;
 }
 
 pub returns-in-AskOffer : goal.returns-in-AskOffer
 unfolding call_row
 returns-in-AskOffer c = record {
-  row = c.ask.ensures.row
+  row = c.offer_call.ensures.row (side_of c.args.self.now)
       ∙ ap (call_row c.args.setup.now c.args.kernel (side_of c.args.self.now) c.args.vpe) (sym c.in-AskOffer.is);
-  stores = c.ask.ensures.stores;
+  stores = search rules;
 }
 
 pub returns-in-Delegate : goal.returns-in-Delegate
 unfolding call_row
 returns-in-Delegate c = record {
-  row = c.delegate.ensures.row
+  row = c.delegate_call.ensures.row (side_of c.args.self.now)
       ∙ ap (call_row c.args.setup.now c.args.kernel (side_of c.args.self.now) c.args.vpe) (sym c.in-Delegate.is);
-  stores = c.delegate.ensures.stores;
+  stores = search rules;
 }
 
 pub returns-in-Revoke : goal.returns-in-Revoke

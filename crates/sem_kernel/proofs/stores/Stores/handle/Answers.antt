@@ -1,9 +1,11 @@
 use Rattle.std.proofs.Common.{◌∙◌, ap, sym, subst, rules}
 use Rattle.sem_machine.specs.Handles.{handle_row, is_stray}
 use Rattle.sem_sound.proofs.Named.{declared-below}
-use Rattle.sem_kernel.specs.Handing.{CanHandle, HasHandled}
+use Rattle.sem_kernel.specs.Handing.{HasHandled}
 use Rattle.sem_kernel.specs.KernelStores.{side_of}
+use Rattle.sem_kernel.proofs.Asked.{can-hold}
 use Rattle.sem_kernel.proofs.Expected.{obtain_req-expected, obtain_no-expected, delegate_no-expected}
+use Rattle.sem_kernel.proofs.Expected.{obtain_ok-expected, delegate_req-expected, delegate_prepared-expected, ack-expected}
 use Rattle.sem_kernel.proofs.stores.Stores.handle.Goals as goal
 
 pub obtain_request-requires-clause-vpe : goal.obtain_request-requires-clause-vpe
@@ -36,6 +38,49 @@ pub delegate_refused-requires-clause-waits : goal.delegate_refused-requires-clau
 delegate_refused-requires-clause-waits c =
     (delegate_no-expected c.args.setup.now c.args.kernel (side_of c.args.self.now) c.in-DelegateNo.parent c.in-DelegateNo.code
     (ap (is_stray c.args.setup.now c.args.kernel (side_of c.args.self.now)) (sym c.in-DelegateNo.is) ∙ c.requires.can.expected)).1
+
+pub obtain_answer-requires-clause-vpe : goal.obtain_answer-requires-clause-vpe
+obtain_answer-requires-clause-vpe c =
+    (obtain_ok-expected c.args.setup.now c.args.kernel (side_of c.args.self.now) c.in-ObtainOk.parent c.in-ObtainOk.key c.in-ObtainOk.object
+    (ap (is_stray c.args.setup.now c.args.kernel (side_of c.args.self.now)) (sym c.in-ObtainOk.is) ∙ c.requires.can.expected)).0
+
+pub obtain_answer-requires-clause-owner : goal.obtain_answer-requires-clause-owner
+obtain_answer-requires-clause-owner c = declared-below c.args.setup.now c.requires.can.are.setup c.in-ObtainOk.parent.pe c.in-ObtainOk.parent.vpe
+    (obtain_ok-expected c.args.setup.now c.args.kernel (side_of c.args.self.now) c.in-ObtainOk.parent c.in-ObtainOk.key c.in-ObtainOk.object
+    (ap (is_stray c.args.setup.now c.args.kernel (side_of c.args.self.now)) (sym c.in-ObtainOk.is) ∙ c.requires.can.expected)).1
+
+pub delegate_request-requires-clause-vpe : goal.delegate_request-requires-clause-vpe
+delegate_request-requires-clause-vpe c =
+    (delegate_req-expected c.args.setup.now c.args.kernel (side_of c.args.self.now) c.in-DelegateReq.parent c.in-DelegateReq.object
+    c.in-DelegateReq.vpe c.in-DelegateReq.sel (ap (is_stray c.args.setup.now c.args.kernel (side_of c.args.self.now)) (sym c.in-DelegateReq.is) ∙ c.requires.can.expected)).0
+
+pub delegate_request-requires-clause-other : goal.delegate_request-requires-clause-other
+delegate_request-requires-clause-other c =
+    (delegate_req-expected c.args.setup.now c.args.kernel (side_of c.args.self.now) c.in-DelegateReq.parent c.in-DelegateReq.object
+    c.in-DelegateReq.vpe c.in-DelegateReq.sel (ap (is_stray c.args.setup.now c.args.kernel (side_of c.args.self.now)) (sym c.in-DelegateReq.is) ∙ c.requires.can.expected)).1
+
+pub delegate_request-requires-clause-owner : goal.delegate_request-requires-clause-owner
+delegate_request-requires-clause-owner c = declared-below c.args.setup.now c.requires.can.are.setup c.in-DelegateReq.parent.pe c.in-DelegateReq.parent.vpe
+    (delegate_req-expected c.args.setup.now c.args.kernel (side_of c.args.self.now) c.in-DelegateReq.parent c.in-DelegateReq.object
+    c.in-DelegateReq.vpe c.in-DelegateReq.sel (ap (is_stray c.args.setup.now c.args.kernel (side_of c.args.self.now)) (sym c.in-DelegateReq.is) ∙ c.requires.can.expected)).2
+
+pub delegate_prepared-requires-clause-vpe : goal.delegate_prepared-requires-clause-vpe
+delegate_prepared-requires-clause-vpe c =
+    (delegate_prepared-expected c.args.setup.now c.args.kernel (side_of c.args.self.now) c.in-DelegatePrepared.parent c.in-DelegatePrepared.key
+    (ap (is_stray c.args.setup.now c.args.kernel (side_of c.args.self.now)) (sym c.in-DelegatePrepared.is) ∙ c.requires.can.expected)).0
+
+pub delegate_prepared-requires-clause-owner : goal.delegate_prepared-requires-clause-owner
+delegate_prepared-requires-clause-owner c = declared-below c.args.setup.now c.requires.can.are.setup c.in-DelegatePrepared.key.pe c.in-DelegatePrepared.key.vpe
+    (delegate_prepared-expected c.args.setup.now c.args.kernel (side_of c.args.self.now) c.in-DelegatePrepared.parent c.in-DelegatePrepared.key
+    (ap (is_stray c.args.setup.now c.args.kernel (side_of c.args.self.now)) (sym c.in-DelegatePrepared.is) ∙ c.requires.can.expected)).1
+
+pub ack-requires-clause-vpe : goal.ack-requires-clause-vpe
+ack-requires-clause-vpe c = ack-expected c.args.setup.now c.args.kernel (side_of c.args.self.now) c.in-Ack.key c.in-Ack.yes
+    (ap (is_stray c.args.setup.now c.args.kernel (side_of c.args.self.now)) (sym c.in-Ack.is) ∙ c.requires.can.expected)
+
+pub ack-requires-clause-holds : goal.ack-requires-clause-holds
+ack-requires-clause-holds c = can-hold c.args.setup.now c.requires.can.are.setup c.args.kernel c.requires.can.are.is_one
+    c.args.self.now c.requires.can.are.sound c.in-Ack.key
 
 pub returns-in-ObtainReq : goal.returns-in-ObtainReq
 returns-in-ObtainReq c = record {
@@ -72,41 +117,33 @@ returns-in-Unlink c = record {
   stores = search rules;
 }
 
-pub obtain_answered-requires-clause-can : goal.obtain_answered-requires-clause-can
-obtain_answered-requires-clause-can c =
-    subst (CanHandle c.args.setup.now c.args.kernel c.args.self.now) c.in-ObtainOk.is c.requires.can
-
 pub returns-in-ObtainOk : goal.returns-in-ObtainOk
-returns-in-ObtainOk c =
-    subst (HasHandled c.args.setup.now c.args.kernel c.args.from c.args.self.now _)
-    (sym c.in-ObtainOk.is) (c.obtain_answered.ensures c.args.from)
-
-pub delegate_requested-requires-clause-can : goal.delegate_requested-requires-clause-can
-delegate_requested-requires-clause-can c =
-    subst (CanHandle c.args.setup.now c.args.kernel c.args.self.now) c.in-DelegateReq.is c.requires.can
+returns-in-ObtainOk c = record {
+  row = c.obtain_answer.ensures.row c.args.from (side_of c.args.self.now)
+      ∙ ap (λ m. handle_row c.args.setup.now c.args.kernel (side_of c.args.self.now) c.args.from m) (sym c.in-ObtainOk.is);
+  stores = search rules;
+}
 
 pub returns-in-DelegateReq : goal.returns-in-DelegateReq
-returns-in-DelegateReq c =
-    subst (HasHandled c.args.setup.now c.args.kernel c.args.from c.args.self.now _)
-    (sym c.in-DelegateReq.is) (c.delegate_requested.ensures c.args.from)
-
-pub delegate_accepted-requires-clause-can : goal.delegate_accepted-requires-clause-can
-delegate_accepted-requires-clause-can c =
-    subst (CanHandle c.args.setup.now c.args.kernel c.args.self.now) c.in-DelegatePrepared.is c.requires.can
+returns-in-DelegateReq c = record {
+  row = c.delegate_request.ensures.row c.args.from (side_of c.args.self.now)
+      ∙ ap (λ m. handle_row c.args.setup.now c.args.kernel (side_of c.args.self.now) c.args.from m) (sym c.in-DelegateReq.is);
+  stores = search rules;
+}
 
 pub returns-in-DelegatePrepared : goal.returns-in-DelegatePrepared
-returns-in-DelegatePrepared c =
-    subst (HasHandled c.args.setup.now c.args.kernel c.args.from c.args.self.now _)
-    (sym c.in-DelegatePrepared.is) (c.delegate_accepted.ensures c.args.from)
-
-pub acknowledged-requires-clause-can : goal.acknowledged-requires-clause-can
-acknowledged-requires-clause-can c =
-    subst (CanHandle c.args.setup.now c.args.kernel c.args.self.now) c.in-Ack.is c.requires.can
+returns-in-DelegatePrepared c = record {
+  row = c.delegate_prepared.ensures.row c.args.from (side_of c.args.self.now)
+      ∙ ap (λ m. handle_row c.args.setup.now c.args.kernel (side_of c.args.self.now) c.args.from m) (sym c.in-DelegatePrepared.is);
+  stores = search rules;
+}
 
 pub returns-in-Ack : goal.returns-in-Ack
-returns-in-Ack c =
-    subst (HasHandled c.args.setup.now c.args.kernel c.args.from c.args.self.now _)
-    (sym c.in-Ack.is) (c.acknowledged.ensures c.args.from)
+returns-in-Ack c = record {
+  row = c.ack.ensures.row c.args.from (side_of c.args.self.now)
+      ∙ ap (λ m. handle_row c.args.setup.now c.args.kernel (side_of c.args.self.now) c.args.from m) (sym c.in-Ack.is);
+  stores = search rules;
+}
 
 pub returns-in-RevokeReq : goal.returns-in-RevokeReq
 returns-in-RevokeReq c =
