@@ -23,7 +23,7 @@ use Rattle.sem_msg.specs.Rows.{Endpoint}
 use Rattle.sem_msg.specs.Uses.{allows, is_past_end, bound_passes}
 use Rattle.sem_msg.specs.Setup.{Setup}
 use Rattle.sem_machine.specs.Sides.{Side, row, endpoint, call_counted}
-use Rattle.sem_machine.specs.Steps.{unless, plain, answer}
+use Rattle.sem_machine.specs.Steps.{unless, unshown, answer}
 use Rattle.sem_machine.specs.Calls.{memory_row, call_row}
 use Rattle.sem_machine.specs.Machine.{World, side, next_call, local_step, local_entry, detail_of, input_of, entry_of, replied_vpe}
 use Rattle.sem_machine.specs.Journals.{is_success}
@@ -108,7 +108,7 @@ call-through T i s t n v (Clear a) x same done is = absurd (cc)
 
 -- a call of a VPE that has one left
 next-through : (T : Setup) (i : ℕ) (s : Side) (n v : ℕ) (next : Option Call) (x : Access)
-    → is_success (option_map_or (call_row T i (call_counted v s) v) next (plain s)).outcome.reply ≡ true
+    → is_success (option_map_or (call_row T i (call_counted v s) v) next (unshown s)).outcome.reply ≡ true
     → act_access s n (Calls v) (option_map_or (λ call. Called (row s v).next_call call) next Nothing) ≡ Some x → GoesThrough s x
 next-through T i s n v None x done is = absurd (cc)
 next-through T i s n v (Some call) x done is = call-through T i s (call_counted v s) n v call x (λ ep. refl) done is

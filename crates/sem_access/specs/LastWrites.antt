@@ -22,13 +22,13 @@ abbrev pub is_write_before : ℕ → ℕ → Access → Bool
 is_write_before n a x = nat_lt x.entry n && is_write_at a x
 
 -- the greater of a number and an optional one
-abbrev pub greater : ℕ → Option ℕ → Option ℕ
-greater n other = Some (option_map_or (max n) other n)
+abbrev pub greater_with : ℕ → Option ℕ → Option ℕ
+greater_with n other = Some (option_map_or (max n) other n)
 
 -- the greatest of numbers, if there is one
 abbrev pub greatest : List ℕ → Option ℕ
 greatest [] = None
-greatest (n ∷ ns) = greater n (greatest ns)
+greatest (n ∷ ns) = greater_with n (greatest ns)
 
 -- the last write of an address among accesses that pass a test: the greatest entry of such a write
 abbrev pub greatest_entry : (Access → Bool) → List Access → Option ℕ

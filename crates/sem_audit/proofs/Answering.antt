@@ -23,7 +23,7 @@ use Rattle.sem_msg.specs.Journal.{replies, kill_number}
 use Rattle.sem_msg.specs.Lookups.{kernel_of, calls_of, decl, pe_owner}
 use Rattle.sem_msg.specs.Setup.{Setup, IsSetup, call_count}
 use Rattle.sem_machine.specs.Sides.{Side, row, is_alive, ask_taken}
-use Rattle.sem_machine.specs.Steps.{Step, plain}
+use Rattle.sem_machine.specs.Steps.{Step, unshown}
 use Rattle.sem_machine.specs.Upcalls.{ask_decided, upcall_row}
 use Rattle.sem_machine.specs.Machine.{World, side, start, after, entry_of, is_enabled, is_locally_enabled, local_step, detail_of, input_of, next_call}
 use Rattle.sem_machine.specs.Machine.{replied_vpe}
@@ -157,7 +157,7 @@ all-counted ds rise (r ∷ rs) to_them =
 -- An upcall answers no call.
 upcall-silent : (T : Setup) (i u : ℕ) (s : Side) → (upcall_row T i s u).outcome.reply ≡ None
 unfolding upcall_row
-upcall-silent T i u s = option-keeps (λ (x : Step). x.outcome.reply ≡ None) (λ a. ask_decided T i u a (ask_taken u s)) (slice_get (row s u).asks 0) (plain s)
+upcall-silent T i u s = option-keeps (λ (x : Step). x.outcome.reply ≡ None) (λ a. ask_decided T i u a (ask_taken u s)) (slice_get (row s u).asks 0) (unshown s)
     (λ a there. decided-by (λ (x : Step). x.outcome.reply ≡ None) (λ w x is. is) (λ w x is. is) (λ w x is. is) T i u a (ask_taken u s)
     (record {
       nothing = refl;

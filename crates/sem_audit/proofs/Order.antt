@@ -22,7 +22,7 @@ use Rattle.sem_msg.specs.Audits.{held_pairs}
 use Rattle.sem_machine.specs.Sides.{Side}
 use Rattle.sem_kernel.specs.KernelValue.{KernelValue}
 use Rattle.sem_mark.proofs.SortedKeys.{AllPairs-append}
-use Rattle.sem_audit.specs.HeldKeys.{held}
+use Rattle.sem_audit.specs.HeldKeys.{keys_held}
 use Rattle.sem_audit.specs.Holding.{holding, IsInOrder, KeepsTies}
 
 -- no key comes before one that stands earlier
@@ -198,7 +198,7 @@ holding-pairs (c ∷ cs) = ap (λ ps. (c.key, c.selector) ∷ ps) (holding-pairs
 
 -- what all sides hold, from the last to the first and then sorted, tells what is held
 pub held-is : (ss : List Side) (found sorted : List Held) → found ≡ reverse (map holding (flat_map (λ (s : Side). s.caps) ss)) → IsInOrder sorted →
-    KeepsTies found sorted → held_pairs sorted ≡ held ss
+    KeepsTies found sorted → held_pairs sorted ≡ keys_held ss
 unfolding arranged
 held-is ss found sorted is order ties =
     let cs = flat_map (λ (s : Side). s.caps) ss in

@@ -21,7 +21,7 @@ use Rattle.sem_machine.specs.Living.{IsHeld, IsComplete}
 use Rattle.sem_sound.proofs.Holding.{with_cap-has, with_cap-keeps, with_cap-from}
 use Rattle.sem_revoke.proofs.IdleForest.{forest-held}
 use Rattle.sem_revoke.proofs.Quieting.{quiet-idle}
-use Rattle.sem_audit.specs.HeldKeys.{all_caps, held}
+use Rattle.sem_audit.specs.HeldKeys.{all_caps, keys_held}
 use Rattle.sem_audit.specs.Straying.{missing, held_keys, stray_count}
 
 -- keys that are all among the others
@@ -59,12 +59,12 @@ module _ (W : World) where
 
   -- the held keys are the keys of all capabilities
   keys-are : (c : Capability) → Contains caps c → Contains (held_keys W.sides) c.key
-  keys-are c among = Contains-map (λ (h : KeyName × ℕ). h.0) (held W.sides) (c.key, c.selector)
+  keys-are c among = Contains-map (λ (h : KeyName × ℕ). h.0) (keys_held W.sides) (c.key, c.selector)
       (Contains-map (λ (x : Capability). (x.key, x.selector)) (all_caps W.sides) c (gathered-keeps caps [] c (inl among)))
 
   keys-from : (k : KeyName) → Contains (held_keys W.sides) k → (c : Capability) × Contains caps c × (c.key ≡ k)
   keys-from k among =
-      let h = Contains-from_map (λ (h : KeyName × ℕ). h.0) (held W.sides) k among in
+      let h = Contains-from_map (λ (h : KeyName × ℕ). h.0) (keys_held W.sides) k among in
       let c = Contains-from_map (λ (x : Capability). (x.key, x.selector)) (all_caps W.sides) h.0 h.1 in
       elim (gathered-from caps [] c.0 c.1) [
         | inl here ↦ (c.0, here, ap (λ (p : KeyName × ℕ). p.0) c.2 ∙ h.2)

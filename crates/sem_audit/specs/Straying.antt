@@ -2,14 +2,14 @@
 -- docs/machine.md).
 use Rattle.std.specs.Prelude.{ℕ, ◌+◌, not, List, length, map, filter}
 use Rattle.sem_machine.specs.Prelude.{KeyName, has_key, Entry, Setup, Side, forest, world_after}
-use Rattle.sem_audit.specs.HeldKeys.{held}
+use Rattle.sem_audit.specs.HeldKeys.{keys_held}
 
 -- how many of the keys are not among the others
 abbrev pub missing : List KeyName → List KeyName → ℕ
 missing ks others = length (filter (λ k. not (has_key others k)) ks)
 
 abbrev pub held_keys : List Side → List KeyName
-held_keys ss = map (λ h. h.0) (held ss)
+held_keys ss = map (λ h. h.0) (keys_held ss)
 
 -- how many keys are held and not in the forest, or in the forest and not held
 abbrev pub stray_count : Setup → List Entry → List Side → ℕ

@@ -1,7 +1,7 @@
 ghost use Rattle.std.specs.Prelude.{◌≡◌, length, map, IfOk};
 ghost use Rattle.sem_msg.specs.Audits.{held_pairs};
 ghost use Rattle.sem_machine.specs.Journals.{made as made_spec, cut};
-ghost use Rattle.sem_audit.specs.HeldKeys.{held};
+ghost use Rattle.sem_audit.specs.HeldKeys.{keys_held};
 
 use crate::holds::held_list;
 use sem_grants::{cut_among, made_keys};
@@ -20,8 +20,8 @@ pub fn audit_of(
     ensures made { IfOk result (λ audit.
         audit.made ≡ length (made_spec setup.now journal.now.entries)) }
     ensures cut { IfOk result (λ audit. audit.cut ≡ length (cut setup.now journal.now.entries)) }
-    ensures held { IfOk result (λ audit.
-        held_pairs audit.held ≡ held (map (λ k. k.side) kernels.now)) }
+    ensures keys_held { IfOk result (λ audit.
+        held_pairs audit.held ≡ keys_held (map (λ k. k.side) kernels.now)) }
 {
     let made = made_keys(alloc, setup, journal)?;
     let cut = cut_among(alloc, &made, journal)?;

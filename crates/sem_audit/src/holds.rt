@@ -1,7 +1,7 @@
 ghost use Rattle.std.specs.Prelude.{◌≡◌, ◌++◌, flat_map, map, reverse, slice_get, IfOk, OnOk};
 ghost use Rattle.std.specs.Option.{option_to_list};
 ghost use Rattle.sem_msg.specs.Audits.{held_pairs};
-ghost use Rattle.sem_audit.specs.HeldKeys.{held};
+ghost use Rattle.sem_audit.specs.HeldKeys.{keys_held};
 ghost use Rattle.sem_audit.specs.Holding.{IsInOrder, KeepsTies, holding};
 
 use sem_kernel::Kernel;
@@ -11,7 +11,7 @@ use std::alloc::Global;
 
 /// The keys that the kernels hold, with their selectors, in rising key order.
 pub fn held_list(alloc: Global, kernels: &[Kernel]) -> Result<HeldList, OutOfMemory>
-    ensures { IfOk result (λ list. held_pairs list ≡ held (map (λ k. k.side) kernels.now)) }
+    ensures { IfOk result (λ list. held_pairs list ≡ keys_held (map (λ k. k.side) kernels.now)) }
 {
     let mut found = found_held(alloc, kernels)?;
     sort_held(&mut found)?;

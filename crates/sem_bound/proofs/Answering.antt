@@ -27,7 +27,7 @@ use Rattle.sem_msg.specs.declared.code.Code.{Code}
 use Rattle.sem_msg.specs.declared.code.Code.TheVariants.{Ok as OkCode, Dead, Refused}
 use Rattle.sem_machine.specs.Sides.{Side, cap, parked, pending, is_alive, drawn, promised, ready, parked_as, asked}
 use Rattle.sem_machine.specs.Sides.{linked, installed, pending_added, pending_removed, send}
-use Rattle.sem_machine.specs.Steps.{Step, plain}
+use Rattle.sem_machine.specs.Steps.{Step, unshown}
 use Rattle.sem_machine.specs.Asks.{target_vpe, asker, is_unawaited, ask_refused, call_refused}
 use Rattle.sem_machine.specs.Calls.{destination_tests, next_key}
 use Rattle.sem_machine.specs.Upcalls.{source, source_tests, given, given_kind, given_here, child_given}
@@ -74,7 +74,7 @@ module _ (T : Setup) (near : KeyName → Bool) (i : ℕ) where
     abbrev Paid : ℕ → Step → Type 0
     Paid n x = IsNearGrant T near x.outcome.grant → of_side T near i x.side + 1 ≤ of_side T near i s + n
 
-    refused-paid : (code : Code) (a : Ask) → Paid (of_ask T near i a) (plain (ask_refused T i code a s))
+    refused-paid : (code : Code) (a : Ask) → Paid (of_ask T near i a) (unshown (ask_refused T i code a s))
     refused-paid code a _ =
         let more = ask_refused-costs T near i code a s in
         let paid = refusal-paid T near i a in
@@ -170,7 +170,7 @@ module _ (T : Setup) (near : KeyName → Bool) (i : ℕ) where
           let least = ask-least (ObtainAsk place target) in
           unless-keeps (Paid n) (source_tests target (source T s v target)) _ _
           (λ code. refused-paid code (ObtainAsk place target))
-          (option-keeps (Paid n) (child_given T i place target s) (source T s v target) (plain s)
+          (option-keeps (Paid n) (child_given T i place target s) (source T s v target) (unshown s)
           (λ p there. child_given-paid place target p (source-home target p there) addressed)
           (λ _. omega (arith, least)))
 

@@ -33,7 +33,7 @@ use Rattle.sem_msg.specs.Setup.{Setup, IsSetup}
 use Rattle.sem_msg.specs.Lookups.{kernel_of, owner_of, place_owner}
 use Rattle.sem_machine.specs.Sides.{Side, no_side, row, cap, parked, call_counted, drawn, linked, installed}
 use Rattle.sem_machine.specs.Sides.{cap_added, unparked, ask_taken, send}
-use Rattle.sem_machine.specs.Steps.{Step, plain}
+use Rattle.sem_machine.specs.Steps.{Step, unshown}
 use Rattle.sem_machine.specs.Calls.{next_key, call_row}
 use Rattle.sem_machine.specs.Upcalls.{given, given_kind, given_here, child_given, ask_decided, upcall_row}
 use Rattle.sem_machine.specs.Resumes.{delegate_granted, delegate_resumed, resumed, resume_row}
@@ -187,10 +187,10 @@ module _ (T : Setup) (k0 : KeyName) where
         Grants (local_step T i s a input)
     unfolding local_step upcall_row resume_row
     step-grants s (Calls v) input home is =
-        option-keeps Grants (call_row T i (call_counted v s) v) (next_call T s v) (plain s)
+        option-keeps Grants (call_row T i (call_counted v s) v) (next_call T s v) (unshown s)
         (λ c there. call_row-grants v c (call_counted v s) is) (λ q some same. absurd cc)
     step-grants s (Upcall v) input home is =
-        option-keeps Grants (λ (a : Ask). ask_decided T i v a (ask_taken v s)) (slice_get (row s v).asks 0) (plain s)
+        option-keeps Grants (λ (a : Ask). ask_decided T i v a (ask_taken v s)) (slice_get (row s v).asks 0) (unshown s)
         (λ a there. upcall-grants v a (ask_taken v s) (home.asks v a there) is) (λ q some same. absurd cc)
     step-grants s (Resume v) input home is =
         resumed-grants (parked s v) (unparked v s) (λ parent key at. (home.offers v parent key at).1)

@@ -23,7 +23,7 @@ use Rattle.sem_msg.specs.Setup.{Setup, kill_count}
 use Rattle.sem_msg.specs.Journal.{kill_number}
 use Rattle.sem_msg.specs.Lookups.{decl, calls_of, kernel_of}
 use Rattle.sem_machine.specs.Sides.{Side, row, parked, outbox, is_alive, call_counted}
-use Rattle.sem_machine.specs.Steps.{Step, plain}
+use Rattle.sem_machine.specs.Steps.{Step, unshown}
 use Rattle.sem_machine.specs.Calls.{call_row}
 use Rattle.sem_machine.specs.Upcalls.{upcall_row}
 use Rattle.sem_machine.specs.Machine.{World, side, link, start, next_call, local_step, local_entry, input_of, after}
@@ -140,7 +140,7 @@ module _ (T : Setup) where
     where
       from : (o : Option Call) → is_some o ≡ true →
           (row s v).next_call + 1
-          ≤ (row (option_map_or (call_row T i (call_counted v s) v) o (plain s)).side v).next_call
+          ≤ (row (option_map_or (call_row T i (call_counted v s) v) o (unshown s)).side v).next_call
       from None some = absurd cc
       from (Some c) some =
           let on = (counted-on i s v c).calls v in

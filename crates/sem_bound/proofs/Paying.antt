@@ -28,7 +28,7 @@ use Rattle.sem_msg.specs.Setup.{Setup, root_key}
 use Rattle.sem_msg.specs.Lookups.{pe_of, pe_owner, kernel_of}
 use Rattle.sem_machine.specs.Sides.{Side, no_side, row, parked, outbox, is_alive, call_counted, ask_taken, unparked}
 use Rattle.sem_machine.specs.Sides.{sent, cap_added, with_inbox}
-use Rattle.sem_machine.specs.Steps.{Step, plain}
+use Rattle.sem_machine.specs.Steps.{Step, unshown}
 use Rattle.sem_machine.specs.Calls.{call_row}
 use Rattle.sem_machine.specs.Upcalls.{ask_decided, upcall_row}
 use Rattle.sem_machine.specs.Handles.{handled}
@@ -88,7 +88,7 @@ module _ (T : Setup) (near : KeyName → Bool) where
 
       from : (o : Option Call) → is_some o ≡ true →
           Paid i s (call_entries T i (option_map_or (λ (c : Call). Called (row s v).next_call c) o Nothing))
-          (option_map_or (call_row T i counted v) o (plain s))
+          (option_map_or (call_row T i counted v) o (unshown s))
       from None none granted = absurd cc
       from (Some c) some granted =
           let less = side-counted T near i s v in
@@ -102,7 +102,7 @@ module _ (T : Setup) (near : KeyName → Bool) where
   upcalled-paid i s v input is pe asks = from (slice_get (row s v).asks 0) refl asks
     where
       from : (o : Option Ask) → slice_get (row s v).asks 0 ≡ o → is_some o ≡ true →
-          Paid i s 0 (option_map_or (λ a. ask_decided T i v a (ask_taken v s)) o (plain s))
+          Paid i s 0 (option_map_or (λ a. ask_decided T i v a (ask_taken v s)) o (unshown s))
       from None at some granted = absurd cc
       from (Some a) at some granted =
           let taken = side-taken T near i s v in

@@ -24,7 +24,7 @@ use Rattle.sem_safety.specs.Walks.{walked, all_enabled}
 use Rattle.sem_safety.proofs.Walking.{journal-schedule, one-pair}
 use Rattle.sem_bound.specs.Counts.{kills_made}
 use Rattle.sem_bound.specs.Costs.{costs_made, each_declared, costs_declared}
-use Rattle.sem_bound.specs.EachCost.{memory, service, server, neighbour, stranger, each_owner, each_cost}
+use Rattle.sem_bound.specs.EachCost.{memory, service, serving_vpe, neighbour, stranger, each_owner, each_cost}
 use Rattle.sem_bound.specs.EachCost.{each_cost_events}
 use Rattle.sem_bound.specs.EachCost.{each_cost_journal}
 
@@ -90,7 +90,7 @@ three-pairs S a b c ab ac bc (suc i) (suc j) d lt within =
 abbrev IsCall : Call → Type 0
 IsCall c = IsValidCall 128 c
 
-server-calls : All IsCall server.calls
+server-calls : All IsCall serving_vpe.calls
 server-calls zero d lt = search rules
 server-calls (suc zero) d lt = search rules
 server-calls (suc (suc zero)) d lt = search rules
@@ -110,13 +110,13 @@ stranger-calls (suc zero) d lt = search rules
 stranger-calls (suc (suc zero)) d lt = search rules
 stranger-calls (suc (suc (suc k))) d lt = absurd (omega (arith, lt))
 
-server-roots : All IsRoot server.roots
+server-roots : All IsRoot serving_vpe.roots
 server-roots =
     All-cons IsRoot memory (service ∷ []) (record { selector = omega arith; kind = tt; ranges = search rules })
     (All-cons IsRoot service [] (record { selector = omega arith; kind = tt; ranges = search rules })
     (All-nil IsRoot))
 
-is_server : IsVpeDecl each_cost server
+is_server : IsVpeDecl each_cost serving_vpe
 unfolding each_cost
 is_server = record {
   vpe = omega arith;
@@ -165,12 +165,12 @@ each-setup = record {
   };
   same_kernels = refl;
   owned_pes = owned_first;
-  vpes = All-cons (IsVpeDecl each_cost) server (neighbour ∷ stranger ∷ []) is_server
+  vpes = All-cons (IsVpeDecl each_cost) serving_vpe (neighbour ∷ stranger ∷ []) is_server
       (All-cons (IsVpeDecl each_cost) neighbour (stranger ∷ []) is_neighbour
       (All-cons (IsVpeDecl each_cost) stranger [] is_stranger (All-nil (IsVpeDecl each_cost))));
-  vpes_rise = three-pairs (λ (a b : VpeDecl). a.vpe < b.vpe) server neighbour stranger (omega arith) (omega arith)
+  vpes_rise = three-pairs (λ (a b : VpeDecl). a.vpe < b.vpe) serving_vpe neighbour stranger (omega arith) (omega arith)
       (omega arith);
-  pes_differ = three-pairs (λ (a b : VpeDecl). a.pe ≢ b.pe) server neighbour stranger (λ same. omega (arith, same))
+  pes_differ = three-pairs (λ (a b : VpeDecl). a.pe ≢ b.pe) serving_vpe neighbour stranger (λ same. omega (arith, same))
       (λ same. omega (arith, same)) (λ same. omega (arith, same));
   services_rise = λ i j d lt within. absurd (omega arith);
   services = λ s. (λ h. h, λ h. h);

@@ -14,8 +14,8 @@ abbrev pub service : Root
 service = record { sel = 1; object = Serv 1 }
 
 -- VPE 0 of kernel 0 serves, gives its memory to both others, and ends: 3, 21 and 1
-abbrev pub server : VpeDecl
-server = record {
+abbrev pub serving_vpe : VpeDecl
+serving_vpe = record {
   vpe = 0;
   pe = 0;
   roots = memory ∷ service ∷ [];
@@ -51,16 +51,16 @@ each_cost = record {
   window = 4;
   kernels = 2;
   owners = record { kernels = 2; owners = each_owner };
-  vpes = server ∷ neighbour ∷ stranger ∷ [];
-  services = record { name = 1; key = root_key server 1 service } ∷ [];
+  vpes = serving_vpe ∷ neighbour ∷ stranger ∷ [];
+  services = record { name = 1; key = root_key serving_vpe 1 service } ∷ [];
   offers = record { name = 1; index = 0; sel = 0 } ∷ [];
   denies = [];
   kills = (2, 1) ∷ [];
 }
 
 -- a message goes from one kernel to another, and is handled there
-abbrev carried : ℕ → ℕ → List Event
-carried i j = event i (Flush j) ∷ event j (Fetch i) ∷ event j Handle ∷ []
+abbrev carry_events : ℕ → ℕ → List Event
+carry_events i j = event i (Flush j) ∷ event j (Fetch i) ∷ event j Handle ∷ []
 
 -- the neighbour asks the server
 abbrev asked_near : List Event
@@ -69,7 +69,7 @@ asked_near = event 0 (Calls 1) ∷ event 0 (Upcall 0) ∷ event 0 (Resume 1) ∷
 -- the stranger asks the server
 abbrev asked_far : List Event
 asked_far =
-    event 1 (Calls 2) ∷ carried 1 0 ++ event 0 (Upcall 0) ∷ carried 0 1 ++ event 1 (Resume 2) ∷ []
+    event 1 (Calls 2) ∷ carry_events 1 0 ++ event 0 (Upcall 0) ∷ carry_events 0 1 ++ event 1 (Resume 2) ∷ []
 
 unfoldable pub each_cost_events : List Event
 each_cost_events =
@@ -81,14 +81,14 @@ each_cost_events =
     ∷ event 0 (Calls 1) ∷ event 0 (Resume 1)
     -- between the kernels: an obtain, an open, an ask of an offer, a delegate
     ∷ asked_far ++ asked_far ++ asked_far
-    ++ event 0 (Calls 0) ∷ carried 0 1
-    ++ event 1 (Upcall 2) ∷ carried 1 0
-    ++ event 0 (Resume 0) ∷ carried 0 1
+    ++ event 0 (Calls 0) ∷ carry_events 0 1
+    ++ event 1 (Upcall 2) ∷ carry_events 1 0
+    ++ event 0 (Resume 0) ∷ carry_events 0 1
     -- Both end. Four capabilities leave their parents, which ask for them at the same time.
     ++ event 1 (Kill 2) ∷ event 0 (Calls 0)
-    ∷ carried 0 1 ++ carried 0 1 ++ carried 0 1 ++ carried 0 1
-    ++ carried 1 0 ++ carried 1 0 ++ carried 1 0 ++ carried 1 0
-    ++ carried 1 0 ++ carried 1 0 ++ carried 1 0 ++ carried 1 0
+    ∷ carry_events 0 1 ++ carry_events 0 1 ++ carry_events 0 1 ++ carry_events 0 1
+    ++ carry_events 1 0 ++ carry_events 1 0 ++ carry_events 1 0 ++ carry_events 1 0
+    ++ carry_events 1 0 ++ carry_events 1 0 ++ carry_events 1 0 ++ carry_events 1 0
 
 -- the journal that they make
 abbrev pub each_cost_journal : List Entry

@@ -11,7 +11,7 @@ use Rattle.sem_key.specs.declared.object.Cap.{Cap}
 use Rattle.sem_key.specs.Capability.{Capability, capability_of}
 use Rattle.sem_key.specs.CapList.{is_marked_by, marked_by, not_marked_by, link_count}
 use Rattle.sem_caps.specs.CapStore.{Spot}
-use Rattle.sem_caps.specs.Stored.{plain, row_at, rows_of, LeadsTo, IsAlone, IsPlaced}
+use Rattle.sem_caps.specs.Stored.{capabilities_in, row_at, rows_of, LeadsTo, IsOnlyMarked, IsPlaced}
 use Rattle.sem_caps.proofs.Places.{length-rows, row-found}
 use Rattle.sem_caps.proofs.RisingCaps.{length-plain}
 use Rattle.sem_caps.proofs.Swept.{map-filter}
@@ -20,7 +20,7 @@ use Rattle.sem_caps.proofs.Alone.{all-left, no-length, alone-passes, alone-leave
 
 module _ (job : ℕ) {old : Slab Cap} {spots : List Spot} (placed : IsPlaced old spots) where
   abbrev caps : List Capability
-  caps = plain (rows_of old spots)
+  caps = capabilities_in (rows_of old spots)
 
   -- the spots and the capabilities to which they lead are as many
   long : length caps ≡ length spots
@@ -55,7 +55,7 @@ module _ (job : ℕ) {old : Slab Cap} {spots : List Spot} (placed : IsPlaced old
 
   -- Where what stands at a place alone is.
 
-  module _ {at : ℕ} (alone : IsAlone job caps at) (spot : Spot) (read : spot ≡ get_or spots at spot) where
+  module _ {at : ℕ} (alone : IsOnlyMarked job caps at) (spot : Spot) (read : spot ≡ get_or spots at spot) where
     pub in_spots : at < length spots
     in_spots = let within = alone.within in omega (arith, within, long)
 

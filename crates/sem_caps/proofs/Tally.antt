@@ -17,7 +17,7 @@ use Rattle.sem_key.specs.Capability.{Capability, capability_of}
 use Rattle.sem_key.specs.CapList.{keys_of, is_marked_by, marked_by}
 use Rattle.sem_key.specs.KeyName.{KeyName}
 use Rattle.sem_caps.specs.CapStore.{key_and_selector}
-use Rattle.sem_caps.specs.Stored.{plain, IsAlone, IsTallied, mark_groups, group_of, is_marked_in, with_mark, without_mark, most_keys}
+use Rattle.sem_caps.specs.Stored.{capabilities_in, IsOnlyMarked, IsTallied, mark_groups, group_of, is_marked_in, with_mark_counted, without_mark, most_keys}
 use Rattle.sem_caps.proofs.RisingCaps.{length-plain, length-keys}
 use Rattle.sem_caps.proofs.Inserted.{map-insert}
 use Rattle.sem_caps.proofs.Links.{keys-few}
@@ -58,15 +58,15 @@ tallied-empty = record {
 
 -- one capability in its place was changed
 module _ (rows : List Cap) (at : ℕ) (row new : Cap) (marks : List ℕ) (within : at < length rows)
-    (read : get_or (plain rows) at (capability_of row) ≡ capability_of row) (tallied : IsTallied rows marks) where
-  there : at < length (plain rows)
+    (read : get_or (capabilities_in rows) at (capability_of row) ≡ capability_of row) (tallied : IsTallied rows marks) where
+  there : at < length (capabilities_in rows)
   there = let long = length-plain rows in omega arith
 
   changed : (g : ℕ)
-      → count_by (is_marked_in g) (plain (set rows at new)) + mark_in g (capability_of row)
-      ≡ count_by (is_marked_in g) (plain rows) + mark_in g (capability_of new)
+      → count_by (is_marked_in g) (capabilities_in (set rows at new)) + mark_in g (capability_of row)
+      ≡ count_by (is_marked_in g) (capabilities_in rows) + mark_in g (capability_of new)
   changed g =
-      let sum = sum_by-set (mark_in g) (plain rows) at (capability_of new) (capability_of row) there in
+      let sum = sum_by-set (mark_in g) (capabilities_in rows) at (capability_of new) (capability_of row) there in
       let same = ap (mark_in g) read in
       let edited = ap (count_by (is_marked_in g)) (map-set capability_of rows at new) in
       omega (arith, sum, same, edited)
@@ -81,7 +81,7 @@ module _ (rows : List Cap) (at : ℕ) (row new : Cap) (marks : List ℕ) (within
         omega (arith, sum, was, equal);
   }
 
-  pub tallied-more : (job : ℕ) → row.mark ≡ None → new.mark ≡ Some job → IsTallied (set rows at new) (with_mark job marks)
+  pub tallied-more : (job : ℕ) → row.mark ≡ None → new.mark ≡ Some job → IsTallied (set rows at new) (with_mark_counted job marks)
   tallied-more job before after = record {
     groups = length-set marks (group_of job) (get_or marks (group_of job) 0 + 1) ∙ tallied.groups;
     tallied = λ g lt.
@@ -133,7 +133,7 @@ module _ (rows : List Cap) (at : ℕ) (row new : Cap) (marks : List ℕ) (within
       go : (m : Option ℕ) → row.mark ≡ m → IfSome m (λ job. 1 ≤ get_or marks (group_of job) 0)
       go None is = tt
       go (Some job) is =
-          let le = get_or-le-sum_by (mark_in (group_of job)) (plain rows) at (capability_of row) there in
+          let le = get_or-le-sum_by (mark_in (group_of job)) (capabilities_in rows) at (capability_of row) there in
           let same = ap (mark_in (group_of job)) read in
           let some = one-in (group_of job) (capability_of row) (Some job) is in
           let one = own (group_of job) job refl in
@@ -147,9 +147,9 @@ tallied-insert rows at new marks none tallied = record {
   tallied = λ g lt.
       let edited = ap (count_by (is_marked_in g)) (map-insert capability_of rows at new) in
       let c = capability_of new in
-      let parts = sum_by-append (mark_in g) (take at (plain rows)) (c ∷ drop at (plain rows)) in
-      let head = sum_by-cons (mark_in g) c (drop at (plain rows)) in
-      let whole = sum_by-take-drop (mark_in g) (plain rows) at in
+      let parts = sum_by-append (mark_in g) (take at (capabilities_in rows)) (c ∷ drop at (capabilities_in rows)) in
+      let head = sum_by-cons (mark_in g) c (drop at (capabilities_in rows)) in
+      let whole = sum_by-take-drop (mark_in g) (capabilities_in rows) at in
       let zero_here : mark_in g c ≡ 0 = one-in g c None none in
       let was = tallied.tallied g lt in
       omega (arith, edited, parts, head, whole, zero_here, was);
@@ -213,40 +213,40 @@ module _ (job : ℕ) where
 
   module _ (rows : List Cap) (marks : List ℕ) (tallied : IsTallied rows marks) where
     -- no more than are counted
-    pub marked-few : length (marked_by job (plain rows)) ≤ get_or marks (group_of job) 0
+    pub marked-few : length (marked_by job (capabilities_in rows)) ≤ get_or marks (group_of job) 0
     marked-few =
-        let le = marked-le (plain rows) in
+        let le = marked-le (capabilities_in rows) in
         let was = tallied.tallied (group_of job) (group-few job) in
         omega (arith, le, was)
 
     -- as many were removed as the job had marked
-    pub tallied-swept : (n : ℕ) → n ≡ length (marked_by job (plain rows))
+    pub tallied-swept : (n : ℕ) → n ≡ length (marked_by job (capabilities_in rows))
         → IsTallied (filter (λ c. not (is_marked_by job (capability_of c))) rows) (set marks (group_of job) (get_or marks (group_of job) 0 - n))
     tallied-swept n is = record {
       groups = length-set marks (group_of job) (get_or marks (group_of job) 0 - n) ∙ tallied.groups;
       tallied = λ g lt.
           let left = ap (count_by (is_marked_in g)) (plain-filter job rows) in
-          let both = sum_by-filter_both (is_marked_by job) (λ c. not (is_marked_by job c)) (λ c. refl) (mark_in g) (plain rows) in
+          let both = sum_by-filter_both (is_marked_by job) (λ c. not (is_marked_by job c)) (λ c. refl) (mark_in g) (capabilities_in rows) in
           let was = tallied.tallied g lt in
           elim (cases_eq g (group_of job)) [
             | inl same ↦
                 let write = written marks tallied.groups job g (get_or marks (group_of job) 0 - n) same in
-                let all = swept-own g same (plain rows) in
+                let all = swept-own g same (capabilities_in rows) in
                 let here = ap (λ k. get_or marks k 0) same in
                 omega (arith, left, both, was, write, all, here, is)
             | inr differs ↦
                 let kept = get_or-set_other marks (group_of job) g (get_or marks (group_of job) 0 - n) 0 differs in
-                let none = swept-other g differs (plain rows) in
+                let none = swept-other g differs (capabilities_in rows) in
                 omega (arith, left, both, was, kept, none)
           ];
     }
 
     -- there is a number for one more
-    pub marks-few : IsKeyList (keys_of (plain rows)) → get_or marks (group_of job) 0 ≤ most_keys
+    pub marks-few : IsKeyList (keys_of (capabilities_in rows)) → get_or marks (group_of job) 0 ≤ most_keys
     marks-few is_list =
-        let caps = keys-few (keys_of (plain rows)) is_list in
-        let long = length-keys (plain rows) in
-        let le = count_by-le-length (is_marked_in (group_of job)) (plain rows) in
+        let caps = keys-few (keys_of (capabilities_in rows)) is_list in
+        let long = length-keys (capabilities_in rows) in
+        let le = count_by-le-length (is_marked_in (group_of job)) (capabilities_in rows) in
         let was = tallied.tallied (group_of job) (group-few job) in
         omega (arith, caps, long, le, was)
 
@@ -261,7 +261,7 @@ module _ (job : ℕ) where
 
   -- a capability that is marked, and no other
   pub alone-here : (cs : List Capability) (at : ℕ) (c : Capability) → slice_get cs at ≡ Some c → is_marked_by job c ≡ true → length (marked_by job cs) ≤ 1
-      → IsAlone job cs at
+      → IsOnlyMarked job cs at
   alone-here cs at c here marked few =
       let within = slice_get_within cs at c here in
       let there : is_marked_by job (get_or cs at c) ≡ true = ap (is_marked_by job) (get_or_from_slice_get cs at c c here) ∙ marked in

@@ -2,7 +2,7 @@
 // rest, so jobs that are opened one after the other are of different groups.
 ghost use Rattle.std.specs.Prelude.{◌≡◌, ◌^◌, ◌+◌, ◌-◌, ◌<◌, ◌≤◌, length, vec_len, IfOk, IfSome};
 ghost use Rattle.std.specs.Prelude.{get_or, set, replicate};
-ghost use Rattle.sem_caps.specs.Stored.{group_of as group_of_spec, mark_groups, with_mark};
+ghost use Rattle.sem_caps.specs.Stored.{group_of as group_of_spec, mark_groups, with_mark_counted};
 ghost use Rattle.sem_caps.specs.Stored.{without_mark};
 
 use sem_key::OutOfMemory;
@@ -38,7 +38,7 @@ pub fn count_of(job: u32, marks: &Vec<usize>) -> usize
 pub fn add_mark(job: u32, marks: &mut Vec<usize>)
     requires groups { vec_len marks.old ≡ mark_groups }
     requires few { get_or marks.old.items (group_of_spec job) 0 < 2 ^ 64 - 1 }
-    ensures { marks.new.items ≡ with_mark job marks.old.items }
+    ensures { marks.new.items ≡ with_mark_counted job marks.old.items }
 {
     marks[group_of(job)] += 1;
 }

@@ -1,6 +1,6 @@
 // What a job has marked is taken out of a store.
 ghost use Rattle.std.specs.Prelude.{IfSome};
-ghost use Rattle.sem_caps.specs.Stored.{plain, rows_of, IsAlone, IsTallied};
+ghost use Rattle.sem_caps.specs.Stored.{capabilities_in, rows_of, IsOnlyMarked, IsTallied};
 ghost use Rattle.sem_caps.specs.Taking.{CanTakeOut, HasTakenOut};
 
 use crate::marks::count_of;
@@ -23,7 +23,7 @@ pub fn take_out(
 ) -> usize
     requires can { CanTakeOut job slab.old spots.old gone.old links }
     requires tallied { IsTallied (rows_of slab.old spots.old.items) marks.now.items }
-    requires alone { IfSome alone (IsAlone job (plain (rows_of slab.old spots.old.items))) }
+    requires alone { IfSome alone (IsOnlyMarked job (capabilities_in (rows_of slab.old spots.old.items))) }
     ensures { HasTakenOut job slab.old slab.new spots.old spots.new gone.old gone.new result }
 {
     if count_of(job, marks) == 0 {
@@ -46,7 +46,7 @@ fn take_alone(
     gone: &mut Vec<(Key, u8)>,
 ) -> usize
     requires can { CanTakeOut job slab.old spots.old gone.old links }
-    requires alone { IsAlone job (plain (rows_of slab.old spots.old.items)) at }
+    requires alone { IsOnlyMarked job (capabilities_in (rows_of slab.old spots.old.items)) at }
     ensures { HasTakenOut job slab.old slab.new spots.old spots.new gone.old gone.new result }
 {
     let spot = spots.remove(at);

@@ -1,7 +1,7 @@
 -- What is counted in a journal.
 use Rattle.std.specs.Prelude.{ℕ, Bool, false, ◌==◌, ◌&&◌, List, length, filter, Option, Some, None}
 use Rattle.std.specs.Option.{option_map_or}
-use Rattle.sem_msg.specs.Act.{number_of}
+use Rattle.sem_msg.specs.Act.{number_of_act}
 use Rattle.sem_msg.specs.declared.event.Act.{Act}
 use Rattle.sem_msg.specs.declared.event.Act.TheVariants.{Flush}
 use Rattle.sem_msg.specs.declared.entry.Detail.{Detail}
@@ -31,9 +31,9 @@ message_number (RevokeDone job) = 10
 message_number (Unlink parent key) = 11
 
 -- the message that a flush gives to a link
-abbrev pub sent_by : Act → Detail → Option Message
-sent_by (Flush to) (Carried peer message) = Some message
-sent_by act detail = None
+abbrev pub flushed : Act → Detail → Option Message
+flushed (Flush to) (Carried peer message) = Some message
+flushed act detail = None
 
 -- the kernel that a flush sends a message to
 abbrev pub sent_to : Act → Option ℕ
@@ -42,11 +42,11 @@ sent_to act = None
 
 -- whether an entry is of the event of that number
 abbrev pub is_event : ℕ → Entry → Bool
-is_event n e = number_of e.event.act == n
+is_event n e = number_of_act e.event.act == n
 
 -- whether an entry sends a message of that number
 abbrev pub sends : ℕ → Entry → Bool
-sends n e = option_map_or (λ m. message_number m == n) (sent_by e.event.act e.detail) false
+sends n e = option_map_or (λ m. message_number m == n) (flushed e.event.act e.detail) false
 
 -- whether an entry sends a message from kernel i to kernel j
 abbrev pub sends_between : ℕ → ℕ → Entry → Bool

@@ -13,7 +13,7 @@ use Rattle.sem_trace.specs.Forms.{place_fault, parts_of, key as key_place}
 use Rattle.sem_trace.specs.Ranges.{IsKeyInText}
 use Rattle.sem_trace.specs.Words.{key_word}
 use Rattle.sem_journal.proofs.PrintedPlaces.{value, small, kind_most, key_parts, key_numbers}
-use Rattle.sem_cli.specs.Commands.{key_numbered, key_of}
+use Rattle.sem_cli.specs.Commands.{key_numbered, key_named}
 
 kind-again : (kind : Kind) → kind_numbered (kind_number kind) ≡ Some kind
 kind-again MemKind = refl
@@ -34,7 +34,7 @@ numbers-are : (k : KeyName) → key_numbered (key_numbers k) ≡ Some k
 numbers-are k = ap (option_map (λ kind. record { pe = k.pe; vpe = k.vpe; kind = kind; number = k.number })) (kind-again k.kind)
 
 -- a word that is the key's is read as the key
-pub key-read : (word : List ℕ) (k : KeyName) → place_fault (key_place 2) word ≡ None → word ≡ key_word k → IsKeyInText 2 k → key_of word ≡ Some k
+pub key-read : (word : List ℕ) (k : KeyName) → place_fault (key_place 2) word ≡ None → word ≡ key_word k → IsKeyInText 2 k → key_named word ≡ Some k
 key-read word k fault is valid =
     cond-true (is_none (place_fault (key_place 2) word)) (key_numbered (map number_value (parts_of word))) None (ap is_none fault)
     ∙ (ap (λ w. key_numbered (map number_value (parts_of w))) is
@@ -43,11 +43,11 @@ key-read word k fault is valid =
     ∙ numbers-are k)))
 
 -- one with a fault is no key
-pub no-key : (word : List ℕ) (cause : Cause) → place_fault (key_place 2) word ≡ Some cause → key_of word ≡ None
+pub no-key : (word : List ℕ) (cause : Cause) → place_fault (key_place 2) word ≡ Some cause → key_named word ≡ None
 no-key word cause fault = cond-false (is_none (place_fault (key_place 2) word)) (key_numbered (map number_value (parts_of word))) None (ap is_none fault)
 
 -- what the reader gives is what the word is
 pub read-is : (word : List ℕ) (r : Result KeyName Cause) → place_fault (key_place 2) word ≡ result_err r → IfOk r (λ k. word ≡ key_word k) →
-    IfOk r (IsKeyInText 2) → result_ok r ≡ key_of word
+    IfOk r (IsKeyInText 2) → result_ok r ≡ key_named word
 read-is word (Ok k) fault is valid = sym (key-read word k fault is valid)
 read-is word (Err cause) fault is valid = sym (no-key word cause fault)

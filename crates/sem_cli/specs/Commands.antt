@@ -27,8 +27,8 @@ key_numbered (pe ∷ vpe ∷ kind ∷ number ∷ []) =
 key_numbered numbers = None
 
 -- the key of a word, with PE and VPE as in the texts of version 2
-abbrev pub key_of : List ℕ → Option KeyName
-key_of word =
+abbrev pub key_named : List ℕ → Option KeyName
+key_named word =
     if is_none (place_fault (key_place 2) word)
     then key_numbered (map number_value (parts_of word))
     else None
@@ -59,11 +59,11 @@ holder_from key count = None
 -- the question of these words
 abbrev pub question_of : List (List ℕ) → Option Question
 question_of (what ∷ word ∷ []) =
-    if bytes_eq what (codes "path") then option_map Path (key_of word)
+    if bytes_eq what (codes "path") then option_map Path (key_named word)
     else (if bytes_eq what (codes "denied") then option_map Denied (seed_of word)
     else None)
 question_of (what ∷ key ∷ count ∷ []) =
-    if bytes_eq what (codes "holder") then holder_from (key_of key) (seed_of count) else None
+    if bytes_eq what (codes "holder") then holder_from (key_named key) (seed_of count) else None
 question_of words = None
 
 -- the command of the words

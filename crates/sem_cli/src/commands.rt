@@ -2,7 +2,7 @@ ghost use Rattle.std.specs.Prelude.{◌≡◌, [], ◌∷◌, map, option_map, s
 ghost use Rattle.sem_cli.specs.declared.forms.Command.TheVariants.{Ask};
 ghost use Rattle.sem_cli.specs.Commands.{command_of, question_of, number_to as number_to_spec};
 ghost use Rattle.sem_cli.specs.Commands.{seed_of as seed_of_spec, load_of as load_of_spec};
-ghost use Rattle.sem_cli.specs.Commands.{key_of as key_of_spec};
+ghost use Rattle.sem_cli.specs.Commands.{key_named as key_of_spec};
 
 use crate::forms::{Command, Load, Question};
 use sem_key::Key;

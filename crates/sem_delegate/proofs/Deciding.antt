@@ -13,7 +13,7 @@ use Rattle.sem_msg.specs.Lookups.{denies, kernel_of, owner_of}
 use Rattle.sem_msg.specs.Setup.{Setup}
 use Rattle.sem_machine.specs.Asks.{call_refused, is_delegate_wait}
 use Rattle.sem_machine.specs.Sides.{Side, cap, parked, send}
-use Rattle.sem_machine.specs.Steps.{Step, asking, first_code, plain}
+use Rattle.sem_machine.specs.Steps.{Step, asking, first_code, unshown}
 use Rattle.sem_machine.specs.Calls.{destination_tests}
 use Rattle.sem_machine.specs.Upcalls.{ask_decided, delegate_here, delegate_prepared, parent_tests}
 use Rattle.sem_machine.proofs.FirstCodes.{unless-first}
@@ -24,7 +24,7 @@ module _ (T : Setup) (i v : ℕ) (parent : KeyName) (object : Object) (sel : ℕ
   code_here = first_code (parent_tests (cap s parent) ++ destination_tests s v sel)
 
   abbrev said_here : Option Code → Step
-  said_here o = asking parent.vpe Yes (option_map_or (λ code. plain (call_refused (code_number code) parent.vpe s)) o (delegate_here T v parent object sel s))
+  said_here o = asking parent.vpe Yes (option_map_or (λ code. unshown (call_refused (code_number code) parent.vpe s)) o (delegate_here T v parent object sel s))
 
   decided-here : kernel_of T parent.vpe ≡ i → is_delegate_wait parent (parked s parent.vpe) ≡ true → denies T v parent.vpe ≡ false →
       ask_decided T i v (DelegateAsk parent object sel) s ≡ said_here code_here
@@ -37,7 +37,7 @@ module _ (T : Setup) (i v : ℕ) (parent : KeyName) (object : Object) (sel : ℕ
 
   pub refused-here : (code : Code) → kernel_of T parent.vpe ≡ i → is_delegate_wait parent (parked s parent.vpe) ≡ true → denies T v parent.vpe ≡ false →
       Some code ≡ code_here
-      → ask_decided T i v (DelegateAsk parent object sel) s ≡ asking parent.vpe Yes (plain (call_refused (code_number code) parent.vpe s))
+      → ask_decided T i v (DelegateAsk parent object sel) s ≡ asking parent.vpe Yes (unshown (call_refused (code_number code) parent.vpe s))
   refused-here code here waits consents first = decided-here here waits consents ∙ ap said_here (sym first)
 
   pub taken-here : kernel_of T parent.vpe ≡ i → is_delegate_wait parent (parked s parent.vpe) ≡ true → denies T v parent.vpe ≡ false → None ≡ code_here
@@ -47,7 +47,7 @@ module _ (T : Setup) (i v : ℕ) (parent : KeyName) (object : Object) (sel : ℕ
   -- of a VPE of another kernel
   abbrev said_elsewhere : Option Code → Step
   said_elsewhere o =
-      asking parent.vpe Yes (option_map_or (λ code. plain (send (owner_of T parent) (DelegateNo parent (code_number code)) s)) o
+      asking parent.vpe Yes (option_map_or (λ code. unshown (send (owner_of T parent) (DelegateNo parent (code_number code)) s)) o
       (delegate_prepared T v parent object sel s))
 
   decided-elsewhere : kernel_of T parent.vpe ≢ i → denies T v parent.vpe ≡ false →
@@ -55,7 +55,7 @@ module _ (T : Setup) (i v : ℕ) (parent : KeyName) (object : Object) (sel : ℕ
   decided-elsewhere other consents = rw (ne_eqb (kernel_of T parent.vpe) i other, consents, unless-first (destination_tests s v sel)) refl
 
   pub refused-elsewhere : (code : Code) → kernel_of T parent.vpe ≢ i → denies T v parent.vpe ≡ false → Some code ≡ first_code (destination_tests s v sel)
-      → ask_decided T i v (DelegateAsk parent object sel) s ≡ asking parent.vpe Yes (plain (send (owner_of T parent) (DelegateNo parent (code_number code)) s))
+      → ask_decided T i v (DelegateAsk parent object sel) s ≡ asking parent.vpe Yes (unshown (send (owner_of T parent) (DelegateNo parent (code_number code)) s))
   refused-elsewhere code other consents first = decided-elsewhere other consents ∙ ap said_elsewhere (sym first)
 
   pub prepared-elsewhere : kernel_of T parent.vpe ≢ i → denies T v parent.vpe ≡ false → None ≡ first_code (destination_tests s v sel)

@@ -6,7 +6,7 @@ ghost use Rattle.sem_msg.specs.Message.{IsDelegable};
 ghost use Rattle.sem_msg.specs.Outboxes.{HasBoxes};
 ghost use Rattle.sem_vpe.specs.VpeTable.{AreOurs};
 ghost use Rattle.sem_machine.specs.Sides.{Side, no_side, own};
-ghost use Rattle.sem_machine.specs.Steps.{plain};
+ghost use Rattle.sem_machine.specs.Steps.{unshown};
 ghost use Rattle.sem_machine.specs.Calls.{delegate_row, offer_made};
 ghost use Rattle.sem_machine.specs.Stores.{owning, with_caps_vpes_parks_outs, with_vpes_parks_outs};
 ghost use Rattle.sem_delegate.specs.Delegating.{IsOfKind};
@@ -83,7 +83,7 @@ fn make_offer(
     requires boxes { HasBoxes setup.now outs.old }
     requires spare { 0 < outs.old.spare }
     ensures row { (s : Side) →
-        plain (with_vpes_parks_outs vpes.new.rows park.new outs.new.boxes s)
+        unshown (with_vpes_parks_outs vpes.new.rows park.new outs.new.boxes s)
         ≡ offer_made setup.now kernel vpe other dst (capability_of cap.now)
         (with_vpes_parks_outs vpes.old.rows park.old outs.old.boxes s) }
     ensures ours { vpes.new.ours ≡ vpes.old.ours }

@@ -5,7 +5,7 @@ ghost use Rattle.sem_msg.specs.Lookups.{owner_of as owner_of_spec};
 ghost use Rattle.sem_msg.specs.Outboxes.{HasBoxes};
 ghost use Rattle.sem_vpe.specs.VpeTable.{IsOurs};
 ghost use Rattle.sem_machine.specs.Sides.{Side, no_side};
-ghost use Rattle.sem_machine.specs.Steps.{first_code, plain};
+ghost use Rattle.sem_machine.specs.Steps.{first_code, unshown};
 ghost use Rattle.sem_machine.specs.Calls.{destination_tests};
 ghost use Rattle.sem_machine.specs.Stores.{with_vpes};
 ghost use Rattle.sem_machine.specs.Upcalls.{ask_decided, delegate_prepared};
@@ -79,7 +79,7 @@ fn prepare(
     requires pendings_spare { 0 < pendings.old.spare }
     requires spare { 0 < outs.old.spare }
     ensures row { (s : Side) →
-        plain (preparing vpes.new pendings.new outs.new s)
+        unshown (preparing vpes.new pendings.new outs.new s)
         ≡ delegate_prepared setup.now vpe parent object sel
         (preparing vpes.old pendings.old outs.old s) }
     ensures ours { vpes.new.ours ≡ vpes.old.ours }

@@ -20,7 +20,7 @@ use Rattle.sem_files.specs.FileForms.{first_form, second_form, form}
 use Rattle.sem_files.specs.Said.{said, files_of, said_file, said_client, said_command, is_end, is_ended}
 use Rattle.sem_files.specs.FileContext.{context_fault}
 use Rattle.sem_files.specs.FileRefusal.{body_fault, words_fault, line_fault}
-use Rattle.sem_files.specs.OneMore.{with_line}
+use Rattle.sem_files.specs.OneMore.{with_file_line}
 use Rattle.sem_files.specs.Tells.{files_in}
 use Rattle.sem_files.specs.Reads.{IsOpened, IsReadTo, with_significant}
 use Rattle.sem_files.proofs.Lists.{any_more}
@@ -40,7 +40,7 @@ module _ {Y : Type 0} (h : FileLine → Option Y) where
   given_none [] l none = rw none refl
   given_none (k ∷ ks) l none = ap (cons_option (h k)) (given_none ks l none)
 
-pub files_of-more : (kernels : ℕ) (ls : List FileLine) (l : FileLine) → files_of kernels (ls ++ l ∷ []) ≡ with_line (files_of kernels ls) l
+pub files_of-more : (kernels : ℕ) (ls : List FileLine) (l : FileLine) → files_of kernels (ls ++ l ∷ []) ≡ with_file_line (files_of kernels ls) l
 unfolding files_of
 files_of-more kernels ls (Kernels n) = rw (
   given_none said_file ls (Kernels n) refl,
@@ -119,7 +119,7 @@ pub opened : (stage : Stage) (lines : List (List (List ℕ))) (t : Tables) → s
 opened stage lines t at read = subst (λ (s : Stage). IsReadTo s lines t) at read
 
 pub open_line : (lines : List (List (List ℕ))) (words : List (List ℕ)) (t after : Tables) (l : FileLine) → IsOpened lines t false →
-    word_fault (form words) words ≡ None → l ≡ said words → context_fault (files_in t) l ≡ None → files_in after ≡ with_line (files_in t) l →
+    word_fault (form words) words ≡ None → l ≡ said words → context_fault (files_in t) l ≡ None → files_in after ≡ with_file_line (files_in t) l →
     (words_fault lines words ≡ None) × IsReadTo (cond (is_end l) Ended Open) (lines ++ words ∷ []) after
 unfolding words_fault body_fault
 open_line lines words t after l read fits is accepted entered =
@@ -133,7 +133,7 @@ open_line lines words t after l read fits is accepted entered =
         second = read.second;
         earlier = read.earlier ++ words ∷ [];
         are = rw read.are refl;
-        says = entered ∙ (ap (λ (F : Files). with_line F l) read.says ∙ (rw more (sym (files_of-more (number_at read.second 1) (map said read.earlier) l))));
+        says = entered ∙ (ap (λ (F : Files). with_file_line F l) read.says ∙ (rw more (sym (files_of-more (number_at read.second 1) (map said read.earlier) l))));
         last = rw more (ended-push (map said read.earlier) l read.last);
       }),
     )

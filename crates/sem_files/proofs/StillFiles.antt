@@ -22,7 +22,7 @@ use Rattle.sem_files.specs.Compiled.{AreFiles, SESSION, client_calls}
 use Rattle.sem_files.specs.FileContext.{is_undeclared, is_astray, is_twice, is_repeated, is_too_long, ends_behind, is_too_much, call_number, with_command}
 use Rattle.sem_files.specs.FileContext.{context_fault}
 use Rattle.sem_files.specs.FileReads.{IsInRange, IsActInRange, IsSpan}
-use Rattle.sem_files.specs.OneMore.{with_file, with_client, with_line, is_begun}
+use Rattle.sem_files.specs.OneMore.{with_file, with_client, with_file_line, is_begun}
 use Rattle.sem_files.proofs.Lists.{any_more, sum_of-same}
 use Rattle.sem_files.proofs.CallNumbers.{calls_from-same}
 use Rattle.sem_files.proofs.Growing.{Keeps, any_kept, find_kept, command_kept, MayCome, OpensFiles, begun_known, calls_kept}
@@ -237,7 +237,7 @@ still-client F v are ranges fine = record {
 }
 
 -- whatever the line says
-pub still : (F : Files) (line : FileLine) → AreFiles F → IsInRange line → context_fault F line ≡ None → AreFiles (with_line F line)
+pub still : (F : Files) (line : FileLine) → AreFiles F → IsInRange line → context_fault F line ≡ None → AreFiles (with_file_line F line)
 still F (Kernels kernels) are ranges none = absurd (true≢false (is_fine F (Kernels kernels) none).once)
 still F (File declared) are ranges none = still-file F declared are ranges (is_fine F (File declared) none)
 still F (Client v) are ranges none = still-client F v are ranges (is_fine F (Client v) none)

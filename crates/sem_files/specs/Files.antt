@@ -86,8 +86,8 @@ abbrev pub IsHandle : ℕ → Type 0
 IsHandle h = h ≤ 15
 
 -- a handle of a client has a file open
-abbrev pub IsOpen : List Command → ℕ → ℕ → Type 0
-IsOpen before v h = (f : ℕ) × (open_file before v h ≡ Some f)
+abbrev pub IsHandleOpen : List Command → ℕ → ℕ → Type 0
+IsHandleOpen before v h = (f : ℕ) × (open_file before v h ≡ Some f)
 
 -- a range lies in the file that the handle has open
 abbrev pub IsRange : Files → List Command → ℕ → ℕ → ℕ → ℕ → Type 0
@@ -102,9 +102,9 @@ IsAct F before v (OpenFile handle file) =
 IsAct F before v (Read handle off len) = IsRange F before v handle off len
 IsAct F before v (Write handle off len) = IsRange F before v handle off len
 IsAct F before v (Share handle to other) =
-    IsOpen before v handle × (is_client F to ≡ true) × (to ≢ v) × (other ≤ 15)
+    IsHandleOpen before v handle × (is_client F to ≡ true) × (to ≢ v) × (other ≤ 15)
     × (is_used before to other ≡ false)
-IsAct F before v (Close handle) = IsOpen before v handle
+IsAct F before v (Close handle) = IsHandleOpen before v handle
 
 -- a command that may come next
 pub record IsCommand (F : Files) (before : List Command) (c : Command) : Type 0 where

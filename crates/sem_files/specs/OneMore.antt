@@ -29,12 +29,12 @@ with_client F v = record {
 }
 
 -- with one more line
-abbrev pub with_line : Files → FileLine → Files
-with_line F (Kernels kernels) = F
-with_line F (File declared) = with_file F declared
-with_line F (Client v) = with_client F v
-with_line F (Do c) = with_command F c
-with_line F End = F
+abbrev pub with_file_line : Files → FileLine → Files
+with_file_line F (Kernels kernels) = F
+with_file_line F (File declared) = with_file F declared
+with_file_line F (Client v) = with_client F v
+with_file_line F (Do c) = with_command F c
+with_file_line F End = F
 
 -- how many extents a file has, if it is declared
 abbrev pub declared_extents : Files → ℕ → Option ℕ

@@ -6,7 +6,7 @@ ghost use Rattle.sem_files.specs.declared.lines.FileLine.TheVariants.{File, Clie
 ghost use Rattle.sem_files.specs.Files.{is_opening as is_opening_spec};
 ghost use Rattle.sem_files.specs.FileContext.{with_command, context_fault};
 ghost use Rattle.sem_files.specs.FileReads.{IsClientNumber, IsActInRange, IsInRange};
-ghost use Rattle.sem_files.specs.OneMore.{with_file, with_client, with_line};
+ghost use Rattle.sem_files.specs.OneMore.{with_file, with_client, with_file_line};
 ghost use Rattle.sem_files.specs.Tells.{files_in, Tells, TellsBegun, CountsOpenings, TellsOpen};
 ghost use Rattle.sem_files.specs.Tells.{TellsUsed};
 
@@ -109,7 +109,7 @@ impl Tables {
         requires tells { Tells self.old }
         requires range { IsInRange line }
         requires fine { context_fault (files_in self.old) line ≡ None }
-        ensures said { OnOk result (files_in self.new ≡ with_line (files_in self.old) line) }
+        ensures said { OnOk result (files_in self.new ≡ with_file_line (files_in self.old) line) }
         ensures tells { OnOk result (Tells self.new) }
     {
         match line {

@@ -26,7 +26,7 @@ use Rattle.sem_journal.specs.EntryRanges.{IsCode, EventFits, ReplyFits, EntryFit
 use Rattle.sem_journal.specs.ShownWords.{carries_long}
 use Rattle.sem_journal.proofs.LongMemory.{long_entry}
 use Rattle.sem_machine.specs.Sides.{Side, row, parked, outbox, is_alive, ask_taken}
-use Rattle.sem_machine.specs.Steps.{Step, plain}
+use Rattle.sem_machine.specs.Steps.{Step, unshown}
 use Rattle.sem_machine.specs.Asks.{asker, is_unawaited}
 use Rattle.sem_machine.specs.Upcalls.{ask_decided, upcall_row}
 use Rattle.sem_machine.specs.Machine.{World, side, link, start, local_step, local_entry, detail_of, replied_vpe, input_of, after, entry_of, is_enabled}
@@ -59,7 +59,7 @@ upcall-tells : (T : Setup) (i : ℕ) (s : Side) (v : ℕ) → is_some (slice_get
 unfolding upcall_row
 upcall-tells T i s v there = from (slice_get (row s v).asks 0) there
   where
-    from : (o : Option Ask) → is_some o ≡ true → Tells (option_map_or (λ a. ask_decided T i v a (ask_taken v s)) o (plain s))
+    from : (o : Option Ask) → is_some o ≡ true → Tells (option_map_or (λ a. ask_decided T i v a (ask_taken v s)) o (unshown s))
     from None none = absurd cc
     from (Some a) some = decided-tells T i v a (ask_taken v s)
 

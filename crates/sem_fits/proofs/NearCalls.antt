@@ -44,7 +44,7 @@ use Rattle.sem_machine.specs.Sides.{Side, row, cap, own, endpoint, parked, drawn
 use Rattle.sem_machine.specs.Sides.{with_endpoint, send}
 use Rattle.sem_machine.specs.Endpoints.{message_rung, message_credited}
 use Rattle.sem_msg.specs.declared.entry.Consent.{Consent}
-use Rattle.sem_machine.specs.Steps.{Step, plain, replied, answer, granting, cutting, asking}
+use Rattle.sem_machine.specs.Steps.{Step, unshown, replied, answer, granting, cutting, asking}
 use Rattle.sem_machine.specs.Asks.{target_vpe, asker, is_unawaited, promise_freed, call_refused, refusal_sent, ask_refused}
 use Rattle.sem_machine.specs.Revokes.{begin, revoke_begun, clear_begun}
 use Rattle.sem_machine.specs.Ends.{ask_ended, call_ended, revoked_if_left, keys_of, ended}
@@ -88,7 +88,7 @@ module _ (version : ℕ) where
   NearStep x = NearSide version x.side × NearShown x.outcome
 
   -- a step that shows nothing
-  pub plain-near : (s : Side) → NearSide version s → NearStep (plain s)
+  pub plain-near : (s : Side) → NearSide version s → NearStep (unshown s)
   plain-near s is = (is, record { asker = λ a c none. absurd cc; granted = tt; cut_so = tt; code = λ n none. absurd cc })
 
   -- a step that replies
@@ -296,7 +296,7 @@ module _ (version : ℕ) where
         (option_and_then (λ c. session_service c.object) (own s v session)) (answer BadKind s)
         (λ k there. ask_made-near i dst (OfferTarget k index) (left dst passed.1.1.1.1) (session-near session k there)) (answer-near BadKind s is))
     call_row-near i services (Revoke src) valid = with_held-near (own s v src) _
-        (λ c held. let near : NearCap version c = own-near version s is v src c held in cutting-near c.key (plain (revoke_begun T i v c.key c.mark s)) near.key
+        (λ c held. let near : NearCap version c = own-near version s is v src c held in cutting-near c.key (unshown (revoke_begun T i v c.key c.mark s)) near.key
         (plain-near (revoke_begun T i v c.key c.mark s) (begun-in version T i v c.key c.mark s is near.key)))
     call_row-near i services (Bind ep src) valid = unless-keeps NearStep (bind_tests s v src) _ _ (λ code. answer-near code s is)
         (with_held-near (own s v src) _ (λ c held. answer-near OkCode (with_endpoint v ep (Some (record { key = c.key; object = c.object; ring = [] })) s) is))
@@ -310,5 +310,5 @@ module _ (version : ℕ) where
         (answer-near OkCode (message_credited v ep s) is)
     call_row-near i services (Clear src) valid = unless-keeps NearStep (own_tests (own s v src)) _ _ (λ code. answer-near code s is)
         (with_held-near (own s v src) _ (λ c held. let near : NearCap version c = own-near version s is v src c held in cutting-near c.key
-        (plain (clear_begun T i v c.key s)) near.key (plain-near (clear_begun T i v c.key s) (cleared-in version T i v c.key s is near.key))))
+        (unshown (clear_begun T i v c.key s)) near.key (plain-near (clear_begun T i v c.key s) (cleared-in version T i v c.key s is near.key))))
     call_row-near i services Exit valid = answer-near OkCode (ended T i v s) (ended-in T i v s is)

@@ -35,7 +35,7 @@ use Rattle.std.specs.Option.{option_and_then}
 use Rattle.sem_trace.specs.Ranges.{IsNode, IsKeyInText}
 use Rattle.sem_machine.specs.Sides.{Side, row, cap, own, parked, pending, is_alive, drawn, promised, parked_as, unparked, asked, ask_taken, call_counted}
 use Rattle.sem_machine.specs.Sides.{linked, installed, pending_added, pending_removed, succeeding, send, sent, with_inbox}
-use Rattle.sem_machine.specs.Steps.{plain, answer}
+use Rattle.sem_machine.specs.Steps.{unshown, answer}
 use Rattle.sem_machine.specs.Asks.{target_vpe, asker, is_unawaited, ask_refused, call_refused}
 use Rattle.sem_machine.specs.Calls.{destination_tests, next_key, call_row}
 use Rattle.sem_machine.specs.Upcalls.{source, source_tests, given, given_kind, given_here, child_given, obtain_consent, parent_tests, delegate_here}
@@ -102,7 +102,7 @@ module _ (version : ℕ) where
       let kept : NearSide version linking = linked-near version s is p.key k key in
       let given' : Side = if kernel_of T place.vpe == i then given_here k p.key object (parked linking place.vpe) linking else send (place_owner T place)
       (ObtainOk p.key k object) linking in
-      granting-near version p.key k (plain given') cap'.key key (plain-near version given'
+      granting-near version p.key k (unshown given') cap'.key key (plain-near version given'
       (cond_both (kernel_of T place.vpe == i) (given_here k p.key object (parked linking place.vpe) linking)
       (send (place_owner T place) (ObtainOk p.key k object) linking) (NearSide version)
       (λ _. given_here-in k p.key object (parked linking place.vpe) linking key cap'.key of_object kept)
@@ -113,7 +113,7 @@ module _ (version : ℕ) where
       → NearStep version (obtain_consent T i v place target s)
   obtain_consent-near T i v place target s is near = unless-keeps (NearStep version) (source_tests target (source T s v target)) _ _
       (λ code. plain-near version (ask_refused T i code (ObtainAsk place target) s) (ask_refused-in version T i code (ObtainAsk place target) s near is))
-      (option-keeps (NearStep version) (child_given T i place target s) (source T s v target) (plain s)
+      (option-keeps (NearStep version) (child_given T i place target s) (source T s v target) (unshown s)
       (λ p held. child_given-near T i place target s p is near (source-near T s v target p is held)) (plain-near version s is))
 
   module _ (T : Setup) (v : ℕ) (vpe : IsNode version v) (pe : IsNode version (pe_of T v)) (s : Side) (is : NearSide version s) (parent : KeyName)
@@ -130,7 +130,7 @@ module _ (version : ℕ) where
         let linking : Side = linked parent k (drawn v s) in
         let kept : NearSide version linking = linked-near version (drawn v s) (drawn-near version s is v) parent k key in
         let done : Side = succeeding parent.vpe (installed k (Some parent) sel object linking) in
-        granting-near version parent k (plain done) near.0 key
+        granting-near version parent k (unshown done) near.0 key
         (plain-near version done (ready-in version (installed k (Some parent) sel object linking)
         (installed-in version linking kept k (Some parent) sel object key near.0 near.1) (code_number OkCode) parent.vpe (code-fits OkCode)))
 
@@ -166,16 +166,16 @@ module _ (version : ℕ) where
     decided-near : (a : Ask) (s : Side) → NearSide version s → NearAsk version a → NearStep version (ask_decided T i v a s)
     decided-near a s is near =
         let node : IsNode version (asker a) = asker-near a near in
-        cond_both (is_unawaited T i s a) _ _ (NearStep version) (λ _. asking-near version (asker a) Dropped (plain s) node (plain-near version s is))
+        cond_both (is_unawaited T i s a) _ _ (NearStep version) (λ _. asking-near version (asker a) Dropped (unshown s) node (plain-near version s is))
         (λ _. cond_both (denies T v (asker a)) _ _ (NearStep version)
-        (λ _. asking-near version (asker a) No (plain (ask_refused T i Refused a s)) node
+        (λ _. asking-near version (asker a) No (unshown (ask_refused T i Refused a s)) node
         (plain-near version (ask_refused T i Refused a s) (ask_refused-in version T i Refused a s near is))) (λ _. asking-near version (asker a) Yes
         (consented T i v a s) node (consented-near a s is near)))
 
     -- the row of an upcall
     pub upcall_row-near : (s : Side) → NearSide version s → NearStep version (upcall_row T i s v)
     unfolding upcall_row
-    upcall_row-near s is = option-keeps (NearStep version) (λ (a : Ask). ask_decided T i v a (ask_taken v s)) (slice_get (row s v).asks 0) (plain s)
+    upcall_row-near s is = option-keeps (NearStep version) (λ (a : Ask). ask_decided T i v a (ask_taken v s)) (slice_get (row s v).asks 0) (unshown s)
         (λ a there. decided-near a (ask_taken v s) (taken-near version s is v) (first_ask-near version s is v a there)) (plain-near version s is)
 
   -- Messages.
@@ -306,7 +306,7 @@ module _ (version : ℕ) where
       → NearStep version (local_step T i s a input)
   unfolding local_step
   local_step-near T i s (Calls v) input services valid nodes is near = option-keeps (NearStep version) (call_row T i (call_counted v s) v) (next_call T s v)
-      (plain s)
+      (unshown s)
       (λ c there. call_row-near version T v nodes.0 nodes.1 (call_counted v s) (counted-near version s is v) i services c (valid v c there))
       (plain-near version s is)
   local_step-near T i s (Fetch from) input services valid nodes is near = plain-near version (with_inbox (option_map (λ m. (from, m)) input) s)

@@ -15,7 +15,7 @@ use Rattle.sem_msg.specs.declared.event.Act.TheVariants.{Call as Calls, Fetch, H
 use Rattle.sem_msg.specs.Journal.{replies}
 use Rattle.sem_machine.specs.Living.{reply_count}
 use Rattle.sem_machine.specs.Journals.{cut_by, is_success, succeeds, answered_from}
-use Rattle.sem_fs.specs.Openings.{is_call_of, call_count}
+use Rattle.sem_fs.specs.Openings.{is_call_of, call_count_of}
 use Rattle.sem_fs.proofs.AskedCalls.{counted-on, counted-so}
 
 -- Lists.
@@ -40,7 +40,7 @@ pub record IsMade (J : List Entry) (v r : ℕ) : Type 0 where
   pub entry : Entry
   pub among : J ≡ before ++ entry ∷ later
   pub act : entry.event.act ≡ Calls v
-  pub count : call_count before v ≡ r
+  pub count : call_count_of before v ≡ r
 
 call-act : (v : ℕ) (a : Act) → is_call_of v a ≡ true → a ≡ Calls v
 call-act v (Calls w) is = ap Calls (eqb-true w v is)
@@ -51,18 +51,18 @@ call-act v (Resume u) is = absurd cc
 call-act v (Flush j) is = absurd cc
 call-act v (Kill u) is = absurd cc
 
-pub call-made : (v r : ℕ) (before later : List Entry) → call_count before v ≤ r → r < call_count (before ++ later) v → IsMade (before ++ later) v r
-call-made v r before [] low high = (let same = ap (λ K. call_count K v) (append-nil before) in absurd (omega (arith, same, low, high)))
+pub call-made : (v r : ℕ) (before later : List Entry) → call_count_of before v ≤ r → r < call_count_of (before ++ later) v → IsMade (before ++ later) v r
+call-made v r before [] low high = (let same = ap (λ K. call_count_of K v) (append-nil before) in absurd (omega (arith, same, low, high)))
 call-made v r before (e ∷ es) low high =
     let same : before ++ e ∷ es ≡ (before ++ e ∷ []) ++ es = sym (append_assoc before (e ∷ []) es) in
-    let high' : r < call_count ((before ++ e ∷ []) ++ es) v = subst (λ K. r < call_count K v) same high in
+    let high' : r < call_count_of ((before ++ e ∷ []) ++ es) v = subst (λ K. r < call_count_of K v) same high in
     elim (cases_Bool (is_call_of v e.event.act)) [
       | inr other ↦
           let stays = counted-so before e v other in
           subst (λ K. IsMade K v r) (sym same) (call-made v r (before ++ e ∷ []) es (omega (arith, stays, low)) high')
       | inl calls ↦
           let more = counted-on before e v calls in
-          elim (cases_lt r (call_count (before ++ e ∷ []) v)) [
+          elim (cases_lt r (call_count_of (before ++ e ∷ []) v)) [
             | inr above ↦ subst (λ K. IsMade K v r) (sym same) (call-made v r (before ++ e ∷ []) es above high')
             | inl here ↦ record {
               before = before;

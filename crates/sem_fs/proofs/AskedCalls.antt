@@ -25,7 +25,7 @@ use Rattle.sem_revoke.proofs.AddressedWorlds.{vpe-local}
 use Rattle.sem_files.specs.Compiled.{SERVER}
 use Rattle.sem_fs.specs.Service.{GIVEN, IsService}
 use Rattle.sem_fs.specs.Serving.{IsServedWorld}
-use Rattle.sem_fs.specs.Openings.{is_call_of, call_count}
+use Rattle.sem_fs.specs.Openings.{is_call_of, call_count_of}
 use Rattle.sem_fs.specs.Holding.{home, IsHolding}
 use Rattle.sem_fs.specs.Drawings.{IsDrawnBy}
 use Rattle.sem_fs.proofs.Lifting.{side-other, counted-call}
@@ -69,7 +69,7 @@ pub record IsAsking (T : Setup) (J : List Entry) (v : ℕ) : Type 0 where
   pub slots : (sel : ℕ) (k : KeyName) → sel < GIVEN → slot (home T (world_after T J) v) v sel ≡ Held k →
       (x : IsAsked T J v k.number sel) × AsksNoMore T J v x.index sel
   pub gives : (p : KeyName) → parked (home T (world_after T J) v) v ≡ Some (DelegateWait p) → IsAskless T J v
-  pub counted : call_count J v ≡ (row (home T (world_after T J) v) v).next_call
+  pub counted : call_count_of J v ≡ (row (home T (world_after T J) v) v).next_call
 
 abbrev pub more-asked : (T : Setup) (J : List Entry) (e : Entry) (v n sel : ℕ) → IsAsked T J v n sel → IsAsked T (J ++ e ∷ []) v n sel
 more-asked T J e v n sel x = record { index = x.index; drawn = drawn-more T J v n e x.index x.drawn; call = x.call; at_index = x.at_index; asks = x.asks }
@@ -87,14 +87,14 @@ kept-drawn T i s sound-s v n sel is =
 -- calls among entries
 
 pub count-more : (J : List Entry) (e : Entry) (v : ℕ) →
-    call_count (J ++ e ∷ []) v ≡ call_count J v + length (filter (λ (x : Entry). is_call_of v x.event.act) (e ∷ []))
+    call_count_of (J ++ e ∷ []) v ≡ call_count_of J v + length (filter (λ (x : Entry). is_call_of v x.event.act) (e ∷ []))
 count-more J e v = ap length (filter-append (λ (x : Entry). is_call_of v x.event.act) J (e ∷ []))
     ∙ length-append (filter (λ (x : Entry). is_call_of v x.event.act) J) (filter (λ (x : Entry). is_call_of v x.event.act) (e ∷ []))
 
-pub counted-on : (J : List Entry) (e : Entry) (v : ℕ) → is_call_of v e.event.act ≡ true → call_count (J ++ e ∷ []) v ≡ call_count J v + 1
-counted-on J e v is = count-more J e v ∙ ap (λ n. call_count J v + n) (ap length (cond-true (is_call_of v e.event.act) (e ∷ []) [] is))
+pub counted-on : (J : List Entry) (e : Entry) (v : ℕ) → is_call_of v e.event.act ≡ true → call_count_of (J ++ e ∷ []) v ≡ call_count_of J v + 1
+counted-on J e v is = count-more J e v ∙ ap (λ n. call_count_of J v + n) (ap length (cond-true (is_call_of v e.event.act) (e ∷ []) [] is))
 
-pub counted-so : (J : List Entry) (e : Entry) (v : ℕ) → is_call_of v e.event.act ≡ false → call_count (J ++ e ∷ []) v ≡ call_count J v
+pub counted-so : (J : List Entry) (e : Entry) (v : ℕ) → is_call_of v e.event.act ≡ false → call_count_of (J ++ e ∷ []) v ≡ call_count_of J v
 counted-so J e v not_ =
     let more = count-more J e v in
     let none : length (filter (λ (x : Entry). is_call_of v x.event.act) (e ∷ [])) ≡ 0 = ap length (cond-false (is_call_of v e.event.act) (e ∷ []) [] not_) in
@@ -311,7 +311,7 @@ module _ (T : Setup) (S : IsService T) (J : List Entry) (e : Entry) (runs' : IsS
           same-call : (c' : Call) → next_call T s v ≡ Some c' → c' ≡ c
           same-call c' there = same_Some c' c (sym there ∙ next)
 
-          count : call_count J' v ≡ (row s' v).next_call
+          count : call_count_of J' v ≡ (row s' v).next_call
           count = counted-on J e v (ap (is_call_of v) act ∙ eq-eqb v v refl) ∙ (ap (λ m. m + 1) A.counted ∙ sym (next-counted act c next))
 
           -- the calls before this one

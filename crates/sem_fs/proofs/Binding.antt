@@ -36,7 +36,7 @@ use Rattle.sem_revoke.proofs.Served.{keepers-waited_for}
 use Rattle.sem_files.specs.Compiled.{SERVER, SESSION, ACCESS}
 use Rattle.sem_fs.specs.Service.{GIVEN, IsService, holds}
 use Rattle.sem_fs.specs.Serving.{IsServedWorld}
-use Rattle.sem_fs.specs.Holding.{home, calls_made, Holds, IsHolding}
+use Rattle.sem_fs.specs.Holding.{home, calls_so_far, Holds, IsHolding}
 use Rattle.sem_fs.proofs.Lifting.{side-other, counted-own}
 use Rattle.sem_fs.proofs.Sparing.{Revokes, unmarked}
 use Rattle.sem_fs.proofs.Passing.{counted-slot}
@@ -56,11 +56,11 @@ pub record IsBinding (T : Setup) (J : List Entry) (v sel : ℕ) : Type 0 where
   pub idle : parked (home T (world_after T J) v) v ≡ None
   pub beyond : SESSION < sel
   pub near : sel < GIVEN
-  pub held : holds (calls_made T (world_after T J) v) sel ≡ true
+  pub held : holds (calls_so_far T (world_after T J) v) sel ≡ true
 
 -- where its last call was a bind
 abbrev pub Binds : Setup → List Entry → ℕ → Type 0
-Binds T J v = (first : List Call) (sel : ℕ) → calls_made T (world_after T J) v ≡ first ++ Bind ACCESS sel ∷ [] → IsBinding T J v sel
+Binds T J v = (first : List Call) (sel : ℕ) → calls_so_far T (world_after T J) v ≡ first ++ Bind ACCESS sel ∷ [] → IsBinding T J v sel
 
 last-same : (xs ys : List Call) (x y : Call) → xs ++ x ∷ [] ≡ ys ++ y ∷ [] → x ≡ y
 last-same [] [] x y same = cc same
@@ -149,7 +149,7 @@ module _ (T : Setup) (S : IsService T) (J : List Entry) (e : Entry) (runs' : IsS
         idle' : parked s' v ≡ None
         idle' = still-idle T s s' v B.idle (course T S J e runs' served passes v d at local client H silent).turn
 
-        held' : holds (calls_made T W' v) sel ≡ true
+        held' : holds (calls_so_far T W' v) sel ≡ true
         held' = ap (λ cs. holds cs sel) (kept-calls T S J e runs' served passes v d at local client H silent) ∙ B.held
 
         holds-there : Holds T J' v sel
@@ -240,7 +240,7 @@ module _ (T : Setup) (S : IsService T) (J : List Entry) (e : Entry) (runs' : IsS
         owned = own-held T S.setup i (few T S J e runs' served passes) here (sound-here T S J e runs' served passes) v sel held-cap.0
             (sym (counted-own here v sel) ∙ held-cap.1)
 
-        ordered : (ACCESS ≡ ACCESS) × ((SESSION < sel) × (sel < GIVEN) × (holds (calls_made T W v) sel ≡ true))
+        ordered : (ACCESS ≡ ACCESS) × ((SESSION < sel) × (sel < GIVEN) × (holds (calls_so_far T W v) sel ≡ true))
         ordered = in-order T S J e runs' served passes v d at local client H act (Bind ACCESS sel) next
 
         binding-new : IsBinding T J' v sel
@@ -268,17 +268,17 @@ module _ (T : Setup) (S : IsService T) (J : List Entry) (e : Entry) (runs' : IsS
     ]
       where
         on : (local : kernel_of T v ≡ i) → (e.event.act ≡ Calls v → ⊥) → (first : List Call) (sel : ℕ)
-            → calls_made T (world_after T (J ++ e ∷ [])) v ≡ first ++ Bind ACCESS sel ∷ [] → IsBinding T (J ++ e ∷ []) v sel
+            → calls_so_far T (world_after T (J ++ e ∷ [])) v ≡ first ++ Bind ACCESS sel ∷ [] → IsBinding T (J ++ e ∷ []) v sel
         on local silent first sel last = binding-on local silent sel (B first sel (sym (kept-calls T S J e runs' served passes v d at local client H silent)
             ∙ last))
 
         mine : (local : kernel_of T v ≡ i) → e.event.act ≡ Calls v → (first : List Call) (sel : ℕ)
-            → calls_made T (world_after T (J ++ e ∷ [])) v ≡ first ++ Bind ACCESS sel ∷ [] → IsBinding T (J ++ e ∷ []) v sel
+            → calls_so_far T (world_after T (J ++ e ∷ [])) v ≡ first ++ Bind ACCESS sel ∷ [] → IsBinding T (J ++ e ∷ []) v sel
         mine local act first sel last = from (next_call T s v) refl
           where
             from : (o : Option Call) → next_call T s v ≡ o → IsBinding T (J ++ e ∷ []) v sel
             from (Some c) next =
-                let same : c ≡ Bind ACCESS sel = last-same (calls_made T W v) first c (Bind ACCESS sel)
+                let same : c ≡ Bind ACCESS sel = last-same (calls_so_far T W v) first c (Bind ACCESS sel)
                 (sym (more-calls T S J e runs' served passes v d at local client H act c next) ∙ last) in
                 binding-new local act sel (next ∙ ap Some same)
             from None none =
@@ -287,7 +287,7 @@ module _ (T : Setup) (S : IsService T) (J : List Entry) (e : Entry) (runs' : IsS
                 absurd cc
 
         by_act : (local : kernel_of T v ≡ i) → (a : Act) → e.event.act ≡ a → (first : List Call) (sel : ℕ)
-            → calls_made T (world_after T (J ++ e ∷ [])) v ≡ first ++ Bind ACCESS sel ∷ [] → IsBinding T (J ++ e ∷ []) v sel
+            → calls_so_far T (world_after T (J ++ e ∷ [])) v ≡ first ++ Bind ACCESS sel ∷ [] → IsBinding T (J ++ e ∷ []) v sel
         by_act local (Calls u) act = elim (cases_eq u v) [
           | inl same ↦ mine local (act ∙ ap Calls same)
           | inr other ↦ on local (λ act'. other (caller (sym act ∙ act')))

@@ -31,7 +31,7 @@ use Rattle.sem_msg.specs.Setup.{Setup}
 use Rattle.sem_msg.specs.Lookups.{kernel_of, service_named}
 use Rattle.sem_msg.specs.Uses.{memory_tests}
 use Rattle.sem_machine.specs.Sides.{Side, row, own, cap, parked, endpoint, is_alive, call_counted, unparked, ask_taken, linked, with_inbox}
-use Rattle.sem_machine.specs.Steps.{Step, plain, answer}
+use Rattle.sem_machine.specs.Steps.{Step, unshown, answer}
 use Rattle.sem_machine.specs.Asks.{target_vpe, asker, promise_freed, call_refused, refusal_sent, ask_refused}
 use Rattle.sem_machine.specs.Calls.{call_row, ask_made, offer_made, open_tests, offer_tests, delegate_tests, bind_tests, with_held}
 use Rattle.sem_machine.specs.Upcalls.{given, given_kind, given_here, ask_decided, upcall_row}
@@ -145,7 +145,7 @@ module _ (v ep : ℕ) (k : KeyName) (T : Setup) (i : ℕ) (s : Side) (is : IsBou
 
   upcall-fate : (u : ℕ) → On (upcall_row T i s u)
   unfolding upcall_row
-  upcall-fate u = option-keeps On (λ (a : Ask). ask_decided T i u a (ask_taken u s)) (slice_get (row s u).asks 0) (plain s)
+  upcall-fate u = option-keeps On (λ (a : Ask). ask_decided T i u a (ask_taken u s)) (slice_get (row s u).asks 0) (unshown s)
       (λ a there. decided-fate u a (ask_taken u s) refl) (same s refl)
 
   -- Parked calls that go on.
@@ -215,14 +215,14 @@ module _ (v ep : ℕ) (k : KeyName) (T : Setup) (i : ℕ) (s : Side) (is : IsBou
   unfolding local_step
   step-fate (Calls u) input order silent living = elim (cases_eq u v) [
     | inl mine ↦ absurd (silent (ap Calls mine))
-    | inr other ↦ option-keeps On (call_row T i (call_counted u s) u) (next_call T s u) (plain s)
+    | inr other ↦ option-keeps On (call_row T i (call_counted u s) u) (next_call T s u) (unshown s)
         (λ c there. let o = order u c refl there in call-fate u o.0 c (call_counted u s) other o.1 refl refl) (same s refl)
   ]
   step-fate (Upcall u) input order silent living = upcall-fate u
   step-fate (Resume u) input order silent living = resume-fate u
   step-fate Handle input order silent living = from s.inbox
     where
-      from : (o : Option (ℕ × Message)) → On (plain (option_map_or (λ m. handled T i (with_inbox None s) m.0 m.1) o s))
+      from : (o : Option (ℕ × Message)) → On (unshown (option_map_or (λ m. handled T i (with_inbox None s) m.0 m.1) o s))
       from None = same s refl
       from (Some m) = handled-fate m.0 m.1
   step-fate (Fetch j) input order silent living = same _ refl

@@ -41,7 +41,7 @@ use Rattle.sem_msg.specs.Uses.{memory_tests}
 use Rattle.sem_machine.specs.Sides.{Side, row, slot, own, cap, parked, endpoint, is_alive, call_counted, drawn, promised, parked_as, unparked, with_slot, asked}
 use Rattle.sem_machine.specs.Sides.{ask_taken, linked, installed, cap_added, pending_added, pending_removed, send}
 use Rattle.sem_machine.specs.Sound.{IsSound, bit, kept, keeps_selector, is_promised}
-use Rattle.sem_machine.specs.Steps.{Step, plain, answer}
+use Rattle.sem_machine.specs.Steps.{Step, unshown, answer}
 use Rattle.sem_machine.specs.Asks.{target_vpe, asker, promise_freed, call_refused, refusal_sent, ask_refused}
 use Rattle.sem_machine.specs.Calls.{call_row, next_place, next_key, ask_made, offer_made, open_tests, offer_tests, delegate_tests, bind_tests, with_held}
 use Rattle.sem_machine.specs.Upcalls.{given, given_kind, given_here, child_given, delegate_here, delegate_prepared, ask_decided, upcall_row}
@@ -443,7 +443,7 @@ module _ (T : Setup) (w0 : ℕ) (m : ℕ → Bool) (k : ℕ) (h : VpeRow → ℕ
 
   pub upcall-so : (n i v : ℕ) (t : Side) → IsServedSide T t → IsSound T i t → Below n t → On n (upcall_row T i t v)
   unfolding upcall_row
-  upcall-so n i v t is sound now = option-keeps (On n) (λ (a : Ask). ask_decided T i v a (ask_taken v t)) (slice_get (row t v).asks 0) (plain t)
+  upcall-so n i v t is sound now = option-keeps (On n) (λ (a : Ask). ask_decided T i v a (ask_taken v t)) (slice_get (row t v).asks 0) (unshown t)
       (λ a there. decided-so n i v a (ask_taken v t) (is.asks v a (ask-among T v a t there)) (later a there)
       (after (weight (ask_taken v t) + pay v (of_ask T w0 m k h a)) (weight t) n (taken-so t v a there) now)) now
     where

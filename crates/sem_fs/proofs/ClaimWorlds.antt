@@ -14,7 +14,7 @@ use Rattle.sem_msg.specs.Setup.{Setup}
 use Rattle.sem_msg.specs.Lookups.{calls_of, kernel_of}
 use Rattle.sem_machine.specs.Sides.{Side, no_side, row, outbox, call_counted, sent, with_inbox}
 use Rattle.sem_machine.specs.Sound.{IsSound}
-use Rattle.sem_machine.specs.Steps.{Step, plain}
+use Rattle.sem_machine.specs.Steps.{Step, unshown}
 use Rattle.sem_machine.specs.Calls.{call_row}
 use Rattle.sem_machine.specs.Handles.{handled}
 use Rattle.sem_machine.specs.Machine.{World, side, link, with_side, with_link, next_call, local_step, is_enabled, event, after}
@@ -58,7 +58,7 @@ module _ (T : Setup) (w0 : ℕ) (m : ℕ → Bool) (k : ℕ) (h : VpeRow → ℕ
       → weight (local_step T i s (Calls v) input).side ≤ weight s
   unfolding local_step
   called-less S i s v input low here alive =
-      option-keeps (λ (x : Step). weight x.side ≤ weight s) (call_row T i (call_counted v s) v) (next_call T s v) (plain s)
+      option-keeps (λ (x : Step). weight x.side ≤ weight s) (call_row T i (call_counted v s) v) (next_call T s v) (unshown s)
       (λ c there. call-so T w0 m k h C (weight s) i v (take (row s v).next_call (calls_of T v)) c (call_counted v s) (S.calls v (row s v).next_call c there)
       (counted-so T w0 m k h C s v c (kernel-vpe T S.setup v (subst (λ n. n < T.kernels) (sym here) low)) alive there))
       (omega arith)

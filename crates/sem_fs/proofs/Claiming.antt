@@ -26,7 +26,7 @@ use Rattle.sem_machine.specs.Schedules.{IsSchedule, world_after}
 use Rattle.sem_fs.proofs.Unending.{entered}
 use Rattle.sem_sound.proofs.Scheduling.{schedule-sound}
 use Rattle.sem_files.specs.Compiled.{SERVER}
-use Rattle.sem_fs.specs.Service.{GIVEN, IsService, any, is_ask, draws, gives, numbers_wanted, times_given}
+use Rattle.sem_fs.specs.Service.{GIVEN, IsService, any, is_ask, draws, times_given_by, numbers_wanted, times_given}
 use Rattle.sem_fs.specs.Holding.{home}
 use Rattle.sem_fs.specs.Supplies.{ClientHasRoom, HasRooms}
 use Rattle.sem_fs.specs.Going.{IsGoing}
@@ -115,20 +115,20 @@ module _ (T : Setup) (S : IsService T) where
         both (claimed T w (at_room T w sel far) 0 (room_used T w sel far) (rooms T w sel far) (start T))
         (sum_by (brings T w (at_room T w sel far) 0 (room_used T w sel far) (rooms T w sel far)) T.vpes) (times_given T w (λ n. n == sel)) 1
         (start-claimed T w (at_room T w sel far) 0 (room_used T w sel far) (rooms T w sel far) (client-free w (room_used T w sel far) client))
-        (sum-le-among (brings T w (at_room T w sel far) 0 (room_used T w sel far) (rooms T w sel far)) (gives T w (λ n. n == sel)) T.vpes
-        (λ d among. no-more (d.vpe == w) (gives T w (λ n. n == sel) d) (room_used T w sel far new_vpe) (unused w sel far)))
+        (sum-le-among (brings T w (at_room T w sel far) 0 (room_used T w sel far) (rooms T w sel far)) (times_given_by T w (λ n. n == sel)) T.vpes
+        (λ d among. no-more (d.vpe == w) (times_given_by T w (λ n. n == sel) d) (room_used T w sel far new_vpe) (unused w sel far)))
         (S.given_once w sel far);
     few = λ w client. both (claimed T w any 1 (numbers_used T w) (numbers T w) (start T)) (sum_by (brings T w any 1 (numbers_used T w) (numbers T w)) T.vpes)
         (numbers_wanted T w) NUMBERS (start-claimed T w any 1 (numbers_used T w) (numbers T w) (client-free w (numbers_used T w) client))
         (sum-le-among (brings T w any 1 (numbers_used T w) (numbers T w)) (draws T w) T.vpes
-        (λ d among. as-much (d.vpe == w) (gives T w any d) (numbers_used T w new_vpe) (length (filter is_ask (calls_of T w))) (new-used w)))
+        (λ d among. as-much (d.vpe == w) (times_given_by T w any d) (numbers_used T w new_vpe) (length (filter is_ask (calls_of T w))) (new-used w)))
         (S.numbers w client);
     none =
         both (claimed T SERVER any 0 (nothing_used T SERVER) (gifts T SERVER) (start T))
         (sum_by (brings T SERVER any 0 (nothing_used T SERVER) (gifts T SERVER)) T.vpes) (times_given T SERVER any) 0
         (start-claimed T SERVER any 0 (nothing_used T SERVER) (gifts T SERVER) (λ d among here r root x. omega arith))
-        (sum-le-among (brings T SERVER any 0 (nothing_used T SERVER) (gifts T SERVER)) (gives T SERVER any) T.vpes
-        (λ d among. no-more (d.vpe == SERVER) (gives T SERVER any d) 0 refl))
+        (sum-le-among (brings T SERVER any 0 (nothing_used T SERVER) (gifts T SERVER)) (times_given_by T SERVER any) T.vpes
+        (λ d among. no-more (d.vpe == SERVER) (times_given_by T SERVER any d) 0 refl))
         (zero-less (times_given T SERVER any) S.ungiven);
   }
     where

@@ -32,7 +32,7 @@ use Rattle.sem_revoke.proofs.Completing.{told-free, told-parked}
 use Rattle.sem_revoke.proofs.Serving.{enabled-call}
 use Rattle.sem_files.specs.Compiled.{SERVER}
 use Rattle.sem_fs.specs.Service.{GIVEN, IsService}
-use Rattle.sem_fs.specs.Openings.{is_call_of, call_count, IsGrantedTo}
+use Rattle.sem_fs.specs.Openings.{is_call_of, call_count_of, IsGrantedTo}
 use Rattle.sem_fs.specs.Holding.{home, Holds}
 use Rattle.sem_fs.specs.Going.{IsGoing}
 use Rattle.sem_fs.specs.Drawings.{IsDrawnBy}
@@ -161,7 +161,7 @@ module _ (T : Setup) (S : IsService T) (J : List Entry) (runs : IsSchedule T J) 
     pass-b : ActPasses T e.event.kernel (side (world_after T b) e.event.kernel) e.event.act
     pass-b = passes T S b e runs-e (all-supplied T S b runs-b) going-b
 
-    counted-b : call_count b v ≡ (row (home T (world_after T b) v) v).next_call
+    counted-b : call_count_of b v ≡ (row (home T (world_after T b) v) v).next_call
     counted-b = (known-b.asking v d.0 d.1 client).counted
 
     whole-j : (b ++ e ∷ []) ++ l ≡ J
@@ -212,13 +212,13 @@ module _ (T : Setup) (S : IsService T) (J : List Entry) (runs : IsSchedule T J) 
 
   -- The revoke was made.
 
-  calls-told : r < call_count J v
+  calls-told : r < call_count_of J v
   calls-told = from (parked (home T (world_after T J) v) v) refl
     where
-      counts : call_count J v ≡ (row (home T (world_after T J) v) v).next_call
+      counts : call_count_of J v ≡ (row (home T (world_after T J) v) v).next_call
       counts = ((all-known T S J runs).asking v d.0 d.1 client).counted
 
-      from : (o : Option Parked) → parked (home T (world_after T J) v) v ≡ o → r < call_count J v
+      from : (o : Option Parked) → parked (home T (world_after T J) v) v ≡ o → r < call_count_of J v
       from None none = let free = told-free T S.setup J runs v (lives T S J runs v d.0 d.1) none in omega (arith, free, counts, told)
       from (Some p) some = let waits = told-parked T S.setup J runs v p (lives T S J runs v d.0 d.1) some in omega (arith, waits, counts, told)
 
@@ -365,10 +365,10 @@ module _ (T : Setup) (S : IsService T) (J : List Entry) (runs : IsSchedule T J) 
       sums : (x y z r : ℕ) → x ≡ y + z → y ≤ r → r < x → 1 ≤ z
       sums x y z r one two three = omega (arith, one, two, three)
 
-      called-once : call_count (made.before ++ made.entry ∷ []) v ≡ r + 1
+      called-once : call_count_of (made.before ++ made.entry ∷ []) v ≡ r + 1
       called-once = counted-on made.before made.entry v (ap (is_call_of v) made.act ∙ eq-eqb v v refl) ∙ ap (λ m. m + 1) made.count
 
-      counts : call_count (made.before ++ made.entry ∷ []) v ≡ (row (home T (world_after T (made.before ++ made.entry ∷ [])) v) v).next_call
+      counts : call_count_of (made.before ++ made.entry ∷ []) v ≡ (row (home T (world_after T (made.before ++ made.entry ∷ [])) v) v).next_call
       counts = ((all-known T S (made.before ++ made.entry ∷ []) runs2).asking v d.0 d.1 client).counted
 
       parks : (kept (parked (home T (world_after T (made.before ++ made.entry ∷ [])) v) v) ≡ None)

@@ -16,7 +16,7 @@ use Rattle.sem_safety.proofs.LiveWorlds.{sum-of_map}
 use Rattle.sem_files.specs.declared.files.Command.{Command}
 use Rattle.sem_files.specs.Files.{Files, open_count}
 use Rattle.sem_files.specs.Compiled.{SERVER, SESSION, rising_clients, server, client, calls_from, client_calls, compiled, AreFiles}
-use Rattle.sem_fs.specs.Service.{GIVEN, MayComeNext, gives_where, gives, is_ask, any, numbers_wanted, times_given, IsService}
+use Rattle.sem_fs.specs.Service.{GIVEN, MayComeNext, gives_where, times_given_by, is_ask, any, numbers_wanted, times_given, IsService}
 use Rattle.sem_fs.proofs.ClaimStarts.{sum-le-among}
 use Rattle.sem_fs.proofs.Rising.{clients-rise}
 use Rattle.sem_fs.proofs.CompiledSetups.{vpes-are, server-declared, server-rests-so, service-served, nothing-denied, nobody-killed, calls-cases}
@@ -41,22 +41,22 @@ module _ (F : Files) (AF : AreFiles F) where
     client-gives v = cond_both (list_any (λ (c : Command). c.client == v) F.commands) (OpenSession SESSION 0 ∷ calls_from F v [] F.commands) []
         (λ cs. tally (gives_where w such) cs ≤ tally (gives_where w such) (calls_from F v [] F.commands)) (λ _. omega arith) (λ _. omega arith)
 
-    each-gives : (v : ℕ) → Contains (rising_clients F) v → gives (compiled F) w such (client F v) ≤ tally (gives_where w such) (calls_from F v [] F.commands)
+    each-gives : (v : ℕ) → Contains (rising_clients F) v → times_given_by (compiled F) w such (client F v) ≤ tally (gives_where w such) (calls_from F v [] F.commands)
     each-gives v among = let same = ap (tally (gives_where w such)) (client-calls-so v among) in let most = client-gives v in omega (arith, same, most)
 
     pub times-most : times_given (compiled F) w such ≤ total F AF (gives_where w such) [] F.commands
     times-most =
-        let vpes = ap (sum_by (gives (compiled F) w such)) (vpes-are F) in
-        let parts = sum_by-cons (gives (compiled F) w such) (server F) (map (client F) (rising_clients F)) in
+        let vpes = ap (sum_by (times_given_by (compiled F) w such)) (vpes-are F) in
+        let parts = sum_by-cons (times_given_by (compiled F) w such) (server F) (map (client F) (rising_clients F)) in
         let none = ap (tally (gives_where w such)) (server-rests-so F) in
-        let mapped = sum-of_map (gives (compiled F) w such) (client F) (rising_clients F) in
-        let each = sum-le-among (λ v. gives (compiled F) w such (client F v)) (λ v. tally (gives_where w such) (calls_from F v [] F.commands))
+        let mapped = sum-of_map (times_given_by (compiled F) w such) (client F) (rising_clients F) in
+        let each = sum-le-among (λ v. times_given_by (compiled F) w such (client F v)) (λ v. tally (gives_where w such) (calls_from F v [] F.commands))
         (rising_clients F)
         each-gives in
         let all = all-tally F AF (gives_where w such) (rising_clients F) (clients-rise F AF) [] F.commands in
-        sums (times_given (compiled F) w such) (sum_by (gives (compiled F) w such) (server F ∷ map (client F) (rising_clients F)))
-        (gives (compiled F) w such (server F)) (sum_by (gives (compiled F) w such) (map (client F) (rising_clients F)))
-        (sum_by (λ v. gives (compiled F) w such (client F v)) (rising_clients F))
+        sums (times_given (compiled F) w such) (sum_by (times_given_by (compiled F) w such) (server F ∷ map (client F) (rising_clients F)))
+        (times_given_by (compiled F) w such (server F)) (sum_by (times_given_by (compiled F) w such) (map (client F) (rising_clients F)))
+        (sum_by (λ v. times_given_by (compiled F) w such (client F v)) (rising_clients F))
         (sum_by (λ v. tally (gives_where w such) (calls_from F v [] F.commands)) (rising_clients F)) (total F AF (gives_where w such) [] F.commands) vpes parts
         none
         mapped each all
@@ -130,7 +130,7 @@ module _ (F : Files) (AF : AreFiles F) where
 
     pub numbers-few : numbers_wanted (compiled F) w ≤ NUMBERS
     numbers-few =
-        let both = sum-plus (gives (compiled F) w any) own (compiled F).vpes in
+        let both = sum-plus (times_given_by (compiled F) w any) own (compiled F).vpes in
         let times = times-most w any in
         let most = total-most F AF (gives_where w any) (given F AF w) (given-grows F AF w) [] F.commands refl in
         let few = given-most F AF w F.commands in

@@ -38,7 +38,7 @@ use Rattle.sem_msg.specs.Uses.{memory_tests}
 use Rattle.sem_machine.specs.Sides.{Side, row, slot, own, cap, parked, pending, endpoint, is_alive, call_counted, drawn, promised, parked_as, unparked}
 use Rattle.sem_machine.specs.Sides.{ask_taken, linked, unlinked, cap_added, installed, pending_removed, send, with_inbox, succeeding}
 use Rattle.sem_machine.specs.Sound.{kept, IsSound}
-use Rattle.sem_machine.specs.Steps.{Step, plain, answer}
+use Rattle.sem_machine.specs.Steps.{Step, unshown, answer}
 use Rattle.sem_machine.specs.Asks.{target_vpe, asker, is_obtain_wait, is_delegate_wait, waits_for, is_unawaited, ask_refused}
 use Rattle.sem_machine.specs.Calls.{call_row, next_place, next_key, ask_made, open_tests, offer_tests, delegate_tests, bind_tests, with_held, destination_tests}
 use Rattle.sem_machine.specs.Upcalls.{source, source_tests, given, given_kind, given_here, child_given, parent_tests, delegate_here, delegate_prepared}
@@ -299,9 +299,9 @@ module _ (T : Setup) (i v : ℕ) (home : kernel_of T v ≡ i) where
       consent-course : (a : Ask) → is_unawaited T i taken a ≡ false → AskPasses T i taken u a → Course T s (consented T i u a taken).side v
       consent-course (ObtainAsk place target) awaited (passed, from) =
           subst (λ (x : Step). Course T s x.side v)
-          (sym (passed-done (source_tests target (source T taken u target)) (λ code. plain (ask_refused T i code (ObtainAsk place target) taken))
-          (option_map_or (child_given T i place target taken) (source T taken u target) (plain taken)) passed))
-          (option-keeps (λ (x : Step). Course T s x.side v) (child_given T i place target taken) (source T taken u target) (plain taken)
+          (sym (passed-done (source_tests target (source T taken u target)) (λ code. unshown (ask_refused T i code (ObtainAsk place target) taken))
+          (option_map_or (child_given T i place target taken) (source T taken u target) (unshown taken)) passed))
+          (option-keeps (λ (x : Step). Course T s x.side v) (child_given T i place target taken) (source T taken u target) (unshown taken)
           (λ p there.
           let k : KeyName = keyed place (given_kind target p) in
           let linking : Side = linked p.key k taken in
@@ -315,15 +315,15 @@ module _ (T : Setup) (i v : ℕ) (home : kernel_of T v ≡ i) where
           cond_both (kernel_of T parent.vpe == i) _ _ (λ (x : Step). Course T s x.side v)
           (λ at. subst (λ (x : Step). Course T s x.side v)
           (sym (passed-done (parent_tests (cap taken parent) ++ destination_tests taken u sel)
-          (λ code. plain (ask_refused T i code (DelegateAsk parent object sel) taken)) (delegate_here T u parent object sel taken) (here at)))
+          (λ code. unshown (ask_refused T i code (DelegateAsk parent object sel) taken)) (delegate_here T u parent object sel taken) (here at)))
           (here-course parent object sel (awaits (DelegateAsk parent object sel) awaited)))
           (λ at. subst (λ (x : Step). Course T s x.side v)
-          (sym (passed-done (destination_tests taken u sel) (λ code. plain (ask_refused T i code (DelegateAsk parent object sel) taken))
+          (sym (passed-done (destination_tests taken u sel) (λ code. unshown (ask_refused T i code (DelegateAsk parent object sel) taken))
           (delegate_prepared T u parent object sel taken) (far at))) (course _ (prepared-stays parent object sel)))
 
       upcall-course : ActPasses T i s (Upcall u) → Course T s (upcall_row T i s u).side v
       unfolding upcall_row
-      upcall-course passes = option-keeps (λ (x : Step). Course T s x.side v) (λ (a : Ask). ask_decided T i u a taken) (slice_get (row s u).asks 0) (plain s)
+      upcall-course passes = option-keeps (λ (x : Step). Course T s x.side v) (λ (a : Ask). ask_decided T i u a taken) (slice_get (row s u).asks 0) (unshown s)
           (λ a there. let p = passes a there in decided a p.0 p.1) (course s stays)
         where
           decided : (a : Ask) → denies T u (asker a) ≡ false → (is_unawaited T i taken a ≡ false → AskPasses T i taken u a)
@@ -561,7 +561,7 @@ module _ (T : Setup) (i v : ℕ) (home : kernel_of T v ≡ i) where
     unfolding local_step
     step-course (Calls u) input alive passes can order silent = elim (cases_eq u v) [
       | inl same ↦ absurd (silent (ap Calls same))
-      | inr other ↦ option-keeps (λ (x : Step). Course T s x.side v) (call_row T i (call_counted u s) u) (next_call T s u) (plain s)
+      | inr other ↦ option-keeps (λ (x : Step). Course T s x.side v) (call_row T i (call_counted u s) u) (next_call T s u) (unshown s)
           (λ c there. let o = order u c refl there in course _ (call-stays u o.0 c (call_counted u s) other o.1 (counted u other))) (course s stays)
     ]
       where
@@ -571,7 +571,7 @@ module _ (T : Setup) (i v : ℕ) (home : kernel_of T v ≡ i) where
     step-course (Resume u) input alive passes can order silent = resume-course u (can u refl)
     step-course Handle input alive passes can order silent = from s.inbox refl
       where
-        from : (o : Option (ℕ × Message)) → s.inbox ≡ o → Course T s (plain (option_map_or (λ m. handled T i emptied m.0 m.1) o s)).side v
+        from : (o : Option (ℕ × Message)) → s.inbox ≡ o → Course T s (unshown (option_map_or (λ m. handled T i emptied m.0 m.1) o s)).side v
         from None at = course s stays
         from (Some m) at = handled-course m.0 m.1 alive (served.inbox m.0 m.1 at) (passes m.0 m.1 at)
     step-course (Fetch j) input alive passes can order silent = course _ (record { park = stays.park; idle = stays.idle; calls = stays.calls })

@@ -21,7 +21,7 @@ use Rattle.sem_msg.specs.Setup.{Setup}
 use Rattle.sem_msg.specs.Lookups.{calls_of, service_named}
 use Rattle.sem_msg.specs.Uses.{memory_tests}
 use Rattle.sem_machine.specs.Sides.{Side, row, own, endpoint, call_counted, with_endpoint}
-use Rattle.sem_machine.specs.Steps.{Step, plain, answer, cutting}
+use Rattle.sem_machine.specs.Steps.{Step, unshown, answer, cutting}
 use Rattle.sem_machine.specs.Calls.{call_row, ask_made, offer_made, open_tests, offer_tests, delegate_tests, bind_tests, session_service, with_held}
 use Rattle.sem_machine.specs.Revokes.{revoke_begun}
 use Rattle.sem_machine.specs.Journals.{cut_off, cut_from}
@@ -66,7 +66,7 @@ module _ (T : Setup) (i u : ℕ) (s : Side) where
   call-revokes before (Revoke src) k so cut = from (own s u src) refl cut
     where
       from : (o : Option Capability) → own s u src ≡ o → ◌≡◌ {A = Option KeyName}
-          (with_held o (λ c. cutting c.key (plain (revoke_begun T i u c.key c.mark s))) s).outcome.cut (Some k) → Cuts s u (Revoke src) k
+          (with_held o (λ c. cutting c.key (unshown (revoke_begun T i u c.key c.mark s))) s).outcome.cut (Some k) → Cuts s u (Revoke src) k
       from None at none = absurd cc
       from (Some c) at some = (c, at, same_Some c.key k some)
   call-revokes before (Bind ep src) k so cut =
@@ -92,7 +92,7 @@ module _ (T : Setup) (i u : ℕ) (s : Side) where
 -- who has no call left cuts off nothing
 no-call : (T : Setup) (i : ℕ) (s : Side) (v : ℕ) → next_call T s v ≡ None → CutsNone (local_step T i s (Calls v) None)
 unfolding local_step
-no-call T i s v none = ap (λ o. (option_map_or (call_row T i (call_counted v s) v) o (plain s)).outcome.cut) none
+no-call T i s v none = ap (λ o. (option_map_or (call_row T i (call_counted v s) v) o (unshown s)).outcome.cut) none
 
 -- an entry that cuts off the key
 pub record IsCutBy (T : Setup) (W : World) (e : Entry) (k : KeyName) : Type 0 where

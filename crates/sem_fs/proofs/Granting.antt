@@ -38,7 +38,7 @@ use Rattle.sem_msg.specs.Lookups.{decl, pe_of, kernel_of, calls_of, denies, serv
 use Rattle.sem_msg.specs.Uses.{memory_tests}
 use Rattle.sem_machine.specs.Sides.{Side, row, own, cap, parked, endpoint, outbox, is_alive, unparked, call_counted, ask_taken, with_endpoint}
 use Rattle.sem_machine.specs.Sound.{kept}
-use Rattle.sem_machine.specs.Steps.{Step, plain, answer, cutting}
+use Rattle.sem_machine.specs.Steps.{Step, unshown, answer, cutting}
 use Rattle.sem_machine.specs.Asks.{asker, is_unawaited, is_delegate_wait}
 use Rattle.sem_machine.specs.Calls.{call_row, ask_made, offer_made, open_tests, offer_tests, delegate_tests, bind_tests, destination_tests}
 use Rattle.sem_machine.specs.Revokes.{revoke_begun}
@@ -58,7 +58,7 @@ use Rattle.sem_revoke.proofs.Serving.{tells}
 use Rattle.sem_files.specs.Compiled.{SERVER}
 use Rattle.sem_fs.specs.Service.{IsService, MayComeNext}
 use Rattle.sem_fs.specs.Serving.{IsServedWorld, IsWorldBy}
-use Rattle.sem_fs.specs.Openings.{IsGrantedTo, call_count}
+use Rattle.sem_fs.specs.Openings.{IsGrantedTo, call_count_of}
 use Rattle.sem_fs.specs.Holding.{home}
 use Rattle.sem_fs.specs.Drawings.{IsDrawnBy}
 use Rattle.sem_fs.proofs.Sparing.{lives, server-rests}
@@ -157,7 +157,7 @@ call-grants T i u s before (AskOffer dst session index) so = unless-keeps Grants
     (option-keeps GrantsNone (λ (q : KeyName). ask_made T i u dst (OfferTarget q index) s) _ (answer BadKind s) (λ q there. refl) refl)
 call-grants T i u s before (Delegate src w dst) so = unless-keeps GrantsNone (delegate_tests T i s u src w) _ _ (λ code. refl)
     (option-keeps GrantsNone (λ (p : Capability). offer_made T i u w dst p s) (own s u src) (answer NoCap s) (λ p there. refl) refl)
-call-grants T i u s before (Revoke src) so = option-keeps GrantsNone (λ (c : Capability). cutting c.key (plain (revoke_begun T i u c.key c.mark s)))
+call-grants T i u s before (Revoke src) so = option-keeps GrantsNone (λ (c : Capability). cutting c.key (unshown (revoke_begun T i u c.key c.mark s)))
     (own s u src)
     (answer NoCap s) (λ p there. refl) refl
 call-grants T i u s before (Bind ep src) so = unless-keeps GrantsNone (bind_tests s u src) _ _ (λ code. refl)
@@ -249,7 +249,7 @@ module _ (T : Setup) (S : IsService T) (J : List Entry) (e : Entry) (runs' : IsS
         → Told (asker a) (consented T i u a taken)
     consent-told (ObtainAsk place target) head awaited passed =
         unless-keeps (Told place.vpe) (source_tests target (source T taken u target)) _ _ (λ code p k some root. absurd cc)
-        (option-keeps (Told place.vpe) (child_given T i place target taken) (source T taken u target) (plain taken)
+        (option-keeps (Told place.vpe) (child_given T i place target taken) (source T taken u target) (unshown taken)
         (λ c there p k some root.
         let g : (c.key, keyed place (given_kind target c)) ≡ (p, k) = second (c.key, keyed place (given_kind target c)) (p, k) some in
         (place, target, given_kind target c, head, sym (ap (λ (x : KeyName × KeyName). x.1) g), given-suits target c (passed.1 c there).1, refl))
@@ -269,7 +269,7 @@ module _ (T : Setup) (S : IsService T) (J : List Entry) (e : Entry) (runs' : IsS
 
     upcall-consents : ActPasses T i here (Upcall u) → Consents u (upcall_row T i here u)
     unfolding upcall_row
-    upcall-consents pass = option-keeps (Consents u) (λ (a : Ask). ask_decided T i u a taken) (slice_get (row here u).asks 0) (plain here)
+    upcall-consents pass = option-keeps (Consents u) (λ (a : Ask). ask_decided T i u a taken) (slice_get (row here u).asks 0) (unshown here)
         (λ a there. decided a there (pass a there).0 (pass a there).1) (λ p k some root. absurd cc)
       where
         decided : (a : Ask) → slice_get (row here u).asks 0 ≡ Some a → denies T u (asker a) ≡ false →
@@ -320,8 +320,8 @@ module _ (T : Setup) (S : IsService T) (J : List Entry) (e : Entry) (runs' : IsS
   step-grants : (a : Act) → e.event.act ≡ a → Granted a
   unfolding local_step
   step-grants (Calls u) act p k some root =
-      let none : GrantsNone (option_map_or (call_row T i (call_counted u here) u) (next_call T here u) (plain here)) =
-      option-keeps GrantsNone (call_row T i (call_counted u here) u) (next_call T here u) (plain here)
+      let none : GrantsNone (option_map_or (call_row T i (call_counted u here) u) (next_call T here u) (unshown here)) =
+      option-keeps GrantsNone (call_row T i (call_counted u here) u) (next_call T here u) (unshown here)
       (λ c there. let o = order T S J e runs' served passes u c act there in call-grants T i u (call_counted u here) o.0 c o.1) refl in
       let no' : ◌≡◌ {A = Option (KeyName × KeyName)} None (Some (p, k)) = sym none ∙ some in
       absurd cc
@@ -397,7 +397,7 @@ module _ (T : Setup) (S : IsService T) (J : List Entry) (e : Entry) (runs' : IsS
         awaited : (sel : ℕ) × (parked (home T W con.place.vpe) con.place.vpe ≡ Some (ObtainWait con.place.number sel))
         awaited = asks-awaited T S.setup J runs-so i g.0 con.place con.target among (lives T S J runs-so con.place.vpe d.0 d.1)
 
-        last : call_count J con.place.vpe ≡ x.index + 1
+        last : call_count_of J con.place.vpe ≡ x.index + 1
         last =
             let a = A con.place.vpe d.0 d.1 client in
             let y = a.waits con.place.number awaited.0 (ap kept awaited.1) in
@@ -480,7 +480,7 @@ module _ (T : Setup) (S : IsService T) (J : List Entry) (e : Entry) (runs' : IsS
             → Below (consented T i u a (ask_taken u here))
         consented-root u (ObtainAsk place target) mine awaited passed =
             unless-keeps Below (source_tests target (source T (ask_taken u here) u target)) _ _ (λ code q r none. absurd cc)
-            (option-keeps Below (child_given T i place target (ask_taken u here)) (source T (ask_taken u here) u target) (plain (ask_taken u here))
+            (option-keeps Below (child_given T i place target (ask_taken u here)) (source T (ask_taken u here) u target) (unshown (ask_taken u here))
             (λ x there q r same. subst (Contains (root_keys T))
             (ap (λ (y : KeyName × KeyName). y.0) (same_Some (x.key, keyed place (given_kind target x)) (q, r) same))
             (passed.1 x there).0)
@@ -495,7 +495,7 @@ module _ (T : Setup) (S : IsService T) (J : List Entry) (e : Entry) (runs' : IsS
 
         upcall-root : (u : ℕ) → ActPasses T i here (Upcall u) → Rooted (upcall_row T i here u)
         unfolding upcall_row
-        upcall-root u pass = option-keeps Rooted (λ (a : Ask). ask_decided T i u a (ask_taken u here)) (slice_get (row here u).asks 0) (plain here)
+        upcall-root u pass = option-keeps Rooted (λ (a : Ask). ask_decided T i u a (ask_taken u here)) (slice_get (row here u).asks 0) (unshown here)
             (λ a there. decided a (pass a there).0 (pass a there).1) (λ q r none. absurd cc)
           where
             asker-so : {w : ℕ} → ◌≡◌ {A = Option (ℕ × Consent)} (Some (w, Yes)) (Some (v, Yes)) → w ≡ v

@@ -46,7 +46,7 @@ use Rattle.sem_sound.proofs.Scheduling.{schedule-sound}
 use Rattle.sem_files.specs.Compiled.{SERVER, SESSION}
 use Rattle.sem_fs.specs.Service.{GIVEN, IsService, MayComeNext, holds, holds_after}
 use Rattle.sem_fs.specs.Serving.{IsServedWorld}
-use Rattle.sem_fs.specs.Holding.{home, calls_made, IsGiven, Holds, Lacks, Awaits, Offers, IsHeldExtent, IsHolding}
+use Rattle.sem_fs.specs.Holding.{home, calls_so_far, IsGiven, Holds, Lacks, Awaits, Offers, IsHeldExtent, IsHolding}
 use Rattle.sem_fs.proofs.Unending.{entered}
 use Rattle.sem_fs.proofs.Sparing.{lives, low, sound as sound-home, cut-waits, doomed-cut, root-spared, Revokes}
 use Rattle.sem_fs.proofs.Cutting.{IsCutBy, Cuts, next-cut}
@@ -218,7 +218,7 @@ module _ (T : Setup) (S : IsService T) (J : List Entry) (e : Entry) (runs' : IsS
         uncut = λ cut. elim (cut-here sel x.key x.at cut) [ inl old ↦ x.uncut old | inr (act, next) ↦ other-act act ];
       }
 
-      same-calls : calls_made T W' v ≡ calls_made T W v
+      same-calls : calls_so_far T W' v ≡ calls_so_far T W v
       same-calls = ap (λ t. take (row t v).next_call (calls_of T v)) same-side
 
       same-parked : parked s' v ≡ parked s v
@@ -390,7 +390,7 @@ module _ (T : Setup) (S : IsService T) (J : List Entry) (e : Entry) (runs' : IsS
               (ap (λ t. is_alive t v) (sym old-side) ∙ lives T S J runs v d at) passes
               (λ u act. (enabled-resume T i here u (subst (λ a. is_locally_enabled T i here a ≡ true) act locally)).1) order silent))
 
-          pub kept-calls : calls_made T W' v ≡ calls_made T W v
+          pub kept-calls : calls_so_far T W' v ≡ calls_so_far T W v
           kept-calls = ap (λ n. take n (calls_of T v)) course.calls
 
           no-some : (n a : ℕ) → ◌≡◌ {A = Option (ℕ × ℕ)} None (Some (n, a)) → ⊥
@@ -505,15 +505,15 @@ module _ (T : Setup) (S : IsService T) (J : List Entry) (e : Entry) (runs' : IsS
           goes = subst (λ t. ((row t v).next_call ≡ (row (call_counted v here) v).next_call) × ParksAs (call_counted v here) v c (parked t v)) (sym stepped-so)
               (own-goes T i v here sound-here call-here.2 c passed)
 
-          pub more-calls : calls_made T W' v ≡ calls_made T W v ++ c ∷ []
+          pub more-calls : calls_so_far T W' v ≡ calls_so_far T W v ++ c ∷ []
           more-calls =
               ap (λ n. take n (calls_of T v)) (goes.0 ∙ (counted-call here v ∙ ap (λ t. (row t v).next_call + 1) (sym old-side)))
               ∙ take-more (calls_of T v) (row s v).next_call c next
 
-          pub holds-now : (sel : ℕ) → holds (calls_made T W' v) sel ≡ holds_after sel (holds (calls_made T W v) sel) c
-          holds-now sel = ap (λ cs. holds cs sel) more-calls ∙ holds-more (calls_made T W v) c sel
+          pub holds-now : (sel : ℕ) → holds (calls_so_far T W' v) sel ≡ holds_after sel (holds (calls_so_far T W v) sel) c
+          holds-now sel = ap (λ cs. holds cs sel) more-calls ∙ holds-more (calls_so_far T W v) c sel
 
-          pub in-order : MayComeNext T v (calls_made T W v) c
+          pub in-order : MayComeNext T v (calls_so_far T W v) c
           in-order = S.calls v (row s v).next_call c next
 
           no-wait : (sel : ℕ) → Unwaited sel
@@ -523,14 +523,14 @@ module _ (T : Setup) (S : IsService T) (J : List Entry) (e : Entry) (runs' : IsS
           the-call c' there = same_Some c' c (sym there ∙ next)
 
           -- at a selector that the call is not about
-          held-on : (sel : ℕ) → sel < GIVEN → (AsksAt c sel → ⊥) → (c ≡ Revoke sel → ⊥) → holds (calls_made T W v) sel ≡ true → Holds T J' v sel
+          held-on : (sel : ℕ) → sel < GIVEN → (AsksAt c sel → ⊥) → (c ≡ Revoke sel → ⊥) → holds (calls_so_far T W v) sel ≡ true → Holds T J' v sel
           held-on sel near apart unrevoked is = elim (H.held sel near is) [
             | inl x ↦ holds-on sel near (λ c' a there asks. apart (subst (λ z. AsksAt z sel) (the-call c' there) asks))
                 (λ c' a there same. unrevoked (sym (the-call c' there) ∙ same)) x
             | inr (number, waits) ↦ absurd (no-wait sel number waits)
           ]
 
-          free-on : (sel : ℕ) → sel < GIVEN → (AsksAt c sel → ⊥) → holds (calls_made T W v) sel ≡ false → Lacks T J' v sel
+          free-on : (sel : ℕ) → sel < GIVEN → (AsksAt c sel → ⊥) → holds (calls_so_far T W v) sel ≡ false → Lacks T J' v sel
           free-on sel near apart is = lacks-on sel near (no-wait sel) (λ c' a there asks. apart (subst (λ z. AsksAt z sel) (the-call c' there) asks))
               (H.free sel near is)
 
@@ -542,9 +542,9 @@ module _ (T : Setup) (S : IsService T) (J : List Entry) (e : Entry) (runs' : IsS
               → ((number sel : ℕ) → kept (parked s' v) ≡ Some (number, sel) → ⊥) → ((p : KeyName) → Offers (parked s' v) p → IsHeldExtent T W' v p) →
               IsHolding T J' v
           plain-on same apart unrevoked waits offers = record {
-            held = λ sel near is. inl (held-on sel near (apart sel) (unrevoked sel) (sym (same sel (holds (calls_made T W v) sel))
+            held = λ sel near is. inl (held-on sel near (apart sel) (unrevoked sel) (sym (same sel (holds (calls_so_far T W v) sel))
                 ∙ (sym (holds-now sel) ∙ is)));
-            free = λ sel near is. free-on sel near (apart sel) (sym (same sel (holds (calls_made T W v) sel)) ∙ (sym (holds-now sel) ∙ is));
+            free = λ sel near is. free-on sel near (apart sel) (sym (same sel (holds (calls_so_far T W v) sel)) ∙ (sym (holds-now sel) ∙ is));
             awaited = λ number sel is. absurd (waits number sel is);
             offered = offers;
           }
@@ -557,21 +557,21 @@ module _ (T : Setup) (S : IsService T) (J : List Entry) (e : Entry) (runs' : IsS
             held = λ sel near is. elim (cases_eq dst sel) [
               | inl same ↦ inr (number, ap kept parks ∙ ap (λ m. Some (number, m)) same)
               | inr other ↦ inl (held-on sel near (λ at'. other (asks sel at')) (unrevoked sel)
-                  (sym (cond-false (dst == sel) true (holds (calls_made T W v) sel) (ne_eqb dst sel other))
-                  ∙ (sym (after' sel (holds (calls_made T W v) sel)) ∙ (sym (holds-now sel) ∙ is))))
+                  (sym (cond-false (dst == sel) true (holds (calls_so_far T W v) sel) (ne_eqb dst sel other))
+                  ∙ (sym (after' sel (holds (calls_so_far T W v) sel)) ∙ (sym (holds-now sel) ∙ is))))
             ];
             free = λ sel near is. elim (cases_eq dst sel) [
-              | inl same ↦ absurd (true≢false (sym (cond-true (dst == sel) true (holds (calls_made T W v) sel) (eq-eqb dst sel same))
-                  ∙ (sym (after' sel (holds (calls_made T W v) sel)) ∙ (sym (holds-now sel) ∙ is))))
+              | inl same ↦ absurd (true≢false (sym (cond-true (dst == sel) true (holds (calls_so_far T W v) sel) (eq-eqb dst sel same))
+                  ∙ (sym (after' sel (holds (calls_so_far T W v) sel)) ∙ (sym (holds-now sel) ∙ is))))
               | inr other ↦ free-on sel near (λ at'. other (asks sel at'))
-                  (sym (cond-false (dst == sel) true (holds (calls_made T W v) sel) (ne_eqb dst sel other))
-                  ∙ (sym (after' sel (holds (calls_made T W v) sel)) ∙ (sym (holds-now sel) ∙ is)))
+                  (sym (cond-false (dst == sel) true (holds (calls_so_far T W v) sel) (ne_eqb dst sel other))
+                  ∙ (sym (after' sel (holds (calls_so_far T W v) sel)) ∙ (sym (holds-now sel) ∙ is)))
             ];
             awaited = λ number' sel is.
                 let same : dst ≡ sel = ap (λ (x : ℕ × ℕ). x.1) (same_Some (number, dst) (number', sel) (sym (ap kept parks) ∙ is)) in (
                   subst (λ m. m < GIVEN) same near',
                   holds-now sel
-                      ∙ (after' sel (holds (calls_made T W v) sel) ∙ cond-true (dst == sel) true (holds (calls_made T W v) sel) (eq-eqb dst sel same)),
+                      ∙ (after' sel (holds (calls_so_far T W v) sel) ∙ cond-true (dst == sel) true (holds (calls_so_far T W v) sel) (eq-eqb dst sel same)),
                 );
             offered = λ p is. absurd (subst (λ o. Offers o p) parks is);
           }
@@ -599,7 +599,7 @@ module _ (T : Setup) (S : IsService T) (J : List Entry) (e : Entry) (runs' : IsS
               ∙ ap (λ x. cut_off (history J).grants x k) told))
               (Contains-head k [])
 
-          pub opened : (SESSION < src) × (src < GIVEN) × (holds (calls_made T W v) src ≡ true)
+          pub opened : (SESSION < src) × (src < GIVEN) × (holds (calls_so_far T W v) src ≡ true)
           opened = in-order act (Revoke src) next
 
           left-at : Lacks T J' v src
@@ -634,15 +634,15 @@ module _ (T : Setup) (S : IsService T) (J : List Entry) (e : Entry) (runs' : IsS
               record {
                 held = λ sel near is. elim (cases_eq src sel) [
                   | inl same ↦ absurd (true≢false
-                      (sym is ∙ (holds-now act (Revoke src) next sel ∙ cond-true (src == sel) false (holds (calls_made T W v) sel) (eq-eqb src sel same))))
+                      (sym is ∙ (holds-now act (Revoke src) next sel ∙ cond-true (src == sel) false (holds (calls_so_far T W v) sel) (eq-eqb src sel same))))
                   | inr other ↦ inl (held-on act (Revoke src) next sel near (λ none. none) (λ same. other (revoke-src sel same))
-                      (sym (cond-false (src == sel) false (holds (calls_made T W v) sel) (ne_eqb src sel other))
+                      (sym (cond-false (src == sel) false (holds (calls_so_far T W v) sel) (ne_eqb src sel other))
                       ∙ (sym (holds-now act (Revoke src) next sel) ∙ is)))
                 ];
                 free = λ sel near is. elim (cases_eq src sel) [
                   | inl same ↦ subst (Lacks T J' v) same left-at
                   | inr other ↦ free-on act (Revoke src) next sel near (λ none. none)
-                      (sym (cond-false (src == sel) false (holds (calls_made T W v) sel) (ne_eqb src sel other))
+                      (sym (cond-false (src == sel) false (holds (calls_so_far T W v) sel) (ne_eqb src sel other))
                       ∙ (sym (holds-now act (Revoke src) next sel) ∙ is))
                 ];
                 awaited = λ number sel is. let no' : ◌≡◌ {A = Option (ℕ × ℕ)} None (Some (number, sel)) = sym parks.0 ∙ is in absurd cc;
@@ -654,7 +654,7 @@ module _ (T : Setup) (S : IsService T) (J : List Entry) (e : Entry) (runs' : IsS
           abbrev the : Call
           the = Delegate src w dst
 
-          gives : (SESSION < src) × (src < GIVEN) × (holds (calls_made T W v) src ≡ true)
+          gives : (SESSION < src) × (src < GIVEN) × (holds (calls_so_far T W v) src ≡ true)
           gives = (in-order act the next).0
 
           extent-given : (p : KeyName) → Offers (parked s' v) p → IsHeldExtent T W' v p

@@ -46,7 +46,7 @@ use Rattle.sem_files.specs.Files.{EXTENT}
 use Rattle.sem_files.specs.Compiled.{SERVER, SESSION, ACCESS, service_key}
 use Rattle.sem_fs.specs.Service.{GIVEN, IsWholeExtent, IsAccess, IsService, MayComeNext, holds}
 use Rattle.sem_fs.specs.Serving.{IsWorldBy}
-use Rattle.sem_fs.specs.Holding.{home, calls_made, IsGiven}
+use Rattle.sem_fs.specs.Holding.{home, calls_so_far, IsGiven}
 use Rattle.sem_fs.specs.Supplies.{IsSupplied, HasObjects}
 use Rattle.sem_fs.specs.Going.{IsGoing}
 use Rattle.sem_fs.specs.Drawings.{IsDrawnBy}
@@ -85,7 +85,7 @@ module _ (T : Setup) (S : IsService T) where
     first-calls : (row (home T (start T) v) v).next_call ≡ 0
     first-calls = sym (told-free T S.setup [] no-entries v (lives T S [] no-entries v d at) first-idle)
 
-    none-made : calls_made T (start T) v ≡ []
+    none-made : calls_so_far T (start T) v ≡ []
     none-made = ap (λ n. take n (calls_of T v)) first-calls
 
     none-cut : (k : KeyName) → Contains (cut_from [] []) k → ⊥
@@ -276,7 +276,7 @@ module _ (T : Setup) (S : IsService T) (J : List Entry) (runs : IsSchedule T J) 
 
   -- an access of a client
   access-passes : (right v ep off len : ℕ) (c : Call) → is_subset right RIGHTS ≡ true → next_call T (home T W v) v ≡ Some c →
-      IsAccess (calls_made T W v) ep off len
+      IsAccess (calls_so_far T W v) ep off len
       → ◌≡◌ {A = Option Code} (first_code (memory_tests right off len (endpoint (home T W v) v ep))) None
   access-passes right v ep off len c may next so =
       ap (λ n. first_code (memory_tests right off len (endpoint (home T W v) v n))) so.0

@@ -27,7 +27,7 @@ use Rattle.sem_msg.specs.Lookups.{kernel_of, service_named}
 use Rattle.sem_msg.specs.Uses.{memory_tests}
 use Rattle.sem_machine.specs.Sides.{Side, row, own, parked, endpoint, call_counted, drawn, promised, parked_as, with_endpoint}
 use Rattle.sem_machine.specs.Sound.{IsSound}
-use Rattle.sem_machine.specs.Steps.{Step, plain, answer, cutting}
+use Rattle.sem_machine.specs.Steps.{Step, unshown, answer, cutting}
 use Rattle.sem_machine.specs.Asks.{target_vpe}
 use Rattle.sem_machine.specs.Calls.{call_row, next_place, ask_made, offer_made, open_tests, offer_tests, delegate_tests, bind_tests, session_service, with_held}
 use Rattle.sem_machine.specs.Revokes.{revoke_begun}
@@ -154,7 +154,7 @@ module _ (T : Setup) (i v : ℕ) (s : Side) (sound : IsSound T i s) (none : park
       let two : with_held (own counted v src) f counted ≡ f c = ap (λ o. with_held o f counted) held in
       subst (Goes (Delegate src w dst)) (sym (one ∙ two)) (offer-goes src w dst c held)
   own-goes (Revoke src) (c, held) =
-      let f : Capability → Step = λ y. cutting y.key (plain (revoke_begun T i v y.key y.mark counted)) in
+      let f : Capability → Step = λ y. cutting y.key (unshown (revoke_begun T i v y.key y.mark counted)) in
       let two : with_held (own counted v src) f counted ≡ f c = ap (λ o. with_held o f counted) held in
       subst (Goes (Revoke src)) (sym two) (revoke-goes src c.key c.mark)
   own-goes (Bind ep src) (passed, (c, held)) =

@@ -5,7 +5,7 @@ use Rattle.std.specs.Prelude.{◌==◌}
 use Rattle.sem_msg.specs.declared.call.Call.TheVariants.{Revoke}
 use Rattle.sem_msg.specs.declared.event.Act.TheVariants.{Call as Calls}
 use Rattle.sem_msg.specs.Lookups.{kernel_of}
-use Rattle.sem_machine.specs.Steps.{plain, cutting}
+use Rattle.sem_machine.specs.Steps.{unshown, cutting}
 use Rattle.sem_machine.specs.Calls.{call_row, with_held}
 use Rattle.sem_machine.specs.Revokes.{revoke_begun}
 use Rattle.sem_machine.specs.Machine.{next_call, is_locally_enabled}
@@ -60,7 +60,7 @@ same_Held a b same = cc same
 pub revoke-cuts : (T : Setup) (i : ℕ) (s : Side) (v src : ℕ) (c : Capability) → own s v src ≡ Some c
     → ◌≡◌ {A = Option KeyName} (call_row T i s v (Revoke src)).outcome.cut (Some c.key)
 unfolding call_row
-revoke-cuts T i s v src c held = ap (λ o. (with_held o (λ (x : Capability). cutting x.key (plain (revoke_begun T i v x.key x.mark s))) s).outcome.cut) held
+revoke-cuts T i s v src c held = ap (λ o. (with_held o (λ (x : Capability). cutting x.key (unshown (revoke_begun T i v x.key x.mark s))) s).outcome.cut) held
 
 -- who may call has a call left
 pub called : (T : Setup) (i : ℕ) (s : Side) (v : ℕ) → is_locally_enabled T i s (Calls v) ≡ true → is_some (next_call T s v) ≡ true

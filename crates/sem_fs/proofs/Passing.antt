@@ -36,7 +36,7 @@ use Rattle.sem_machine.specs.Schedules.{IsSchedule, world_after}
 use Rattle.sem_machine.proofs.FirstCodes.{Passed}
 use Rattle.sem_files.specs.Compiled.{SERVER, SESSION, service_key}
 use Rattle.sem_fs.specs.Service.{GIVEN, IsService, MayComeNext, holds}
-use Rattle.sem_fs.specs.Holding.{home, calls_made, IsGiven, IsHolding}
+use Rattle.sem_fs.specs.Holding.{home, calls_so_far, IsGiven, IsHolding}
 use Rattle.sem_fs.specs.Supplies.{IsSupplied}
 use Rattle.sem_fs.proofs.Sparing.{lives, low, sound, cut-waits, unmarked, Revokes}
 use Rattle.sem_fs.proofs.Owned.{slot-cap, held-own}
@@ -125,7 +125,7 @@ module _ (T : Setup) (S : IsService T) (J : List Entry) (runs : IsSchedule T J) 
       no-revoke (inr (code, is)) = let no' : ◌≡◌ {A = Option Parked} None (Some (Ready code)) = sym idle ∙ is in absurd cc
 
       -- a selector at which it holds nothing is free
-      free-at : (sel : ℕ) → sel < GIVEN → holds (calls_made T W v) sel ≡ false → slot s v sel ≡ Free
+      free-at : (sel : ℕ) → sel < GIVEN → holds (calls_so_far T W v) sel ≡ false → slot s v sel ≡ Free
       free-at sel near none = elim (H.free sel near none) [
         | inl free ↦ free
         | inr x ↦
@@ -145,7 +145,7 @@ module _ (T : Setup) (S : IsService T) (J : List Entry) (runs : IsSchedule T J) 
         pub held : cap s key ≡ Some capability
         pub unmarked : capability.mark ≡ None
 
-      has : (sel : ℕ) → sel < GIVEN → holds (calls_made T W v) sel ≡ true → Has sel
+      has : (sel : ℕ) → sel < GIVEN → holds (calls_so_far T W v) sel ≡ true → Has sel
       has sel near is = elim (H.held sel near is) [
         | inl x ↦ (let c = clean sel x.key x.at x.given no-revoke in
             record { key = x.key; at_slot = x.at; given = x.given; capability = c.0; held = c.1; unmarked = c.2 })
@@ -161,7 +161,7 @@ module _ (T : Setup) (S : IsService T) (J : List Entry) (runs : IsSchedule T J) 
       own-passed : (sel : ℕ) (h : Has sel) → (is_none (own t v sel) ≡ false) × (is_marked (own t v sel) ≡ false)
       own-passed sel h = (ap is_none (own-at sel h), ap is_marked (own-at sel h) ∙ ap is_some h.unmarked)
 
-      room-passed : (dst : ℕ) → dst < GIVEN → holds (calls_made T W v) dst ≡ false → (row s v).next_number < NUMBERS → Passed (destination_tests t v dst)
+      room-passed : (dst : ℕ) → dst < GIVEN → holds (calls_so_far T W v) dst ≡ false → (row s v).next_number < NUMBERS → Passed (destination_tests t v dst)
       room-passed dst near none less = (
         ap is_taken (counted-slot s v dst ∙ free-at dst near none),
         (
@@ -192,7 +192,7 @@ module _ (T : Setup) (S : IsService T) (J : List Entry) (runs : IsSchedule T J) 
           bindable sel beyond near h = ap (object_passes stays_at_home) (own-at sel h)
               ∙ X.objects.extents v sel h.key h.capability beyond near h.at_slot h.given h.held
 
-          by_call : (c : Call) → next_call T s v ≡ Some c → MayComeNext T v (calls_made T W v) c → CallPasses T i t v c
+          by_call : (c : Call) → next_call T s v ≡ Some c → MayComeNext T v (calls_so_far T W v) c → CallPasses T i t v c
           by_call (OpenSession dst name) next (session, named, none) =
               let named' : service_named T name ≡ Some (record { name = 0; key = service_key }) = ap (service_named T) named ∙ S.served in (
                 (

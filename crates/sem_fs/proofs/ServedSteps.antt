@@ -31,7 +31,7 @@ use Rattle.sem_msg.specs.Lookups.{kernel_of, service_named, denies}
 use Rattle.sem_msg.specs.Uses.{memory_tests}
 use Rattle.sem_machine.specs.Sides.{Side, row, own, cap, parked, endpoint, outbox, call_counted, ask_taken, with_endpoint, with_inbox, sent}
 use Rattle.sem_machine.specs.Asks.{asker, is_unawaited, ask_refused}
-use Rattle.sem_machine.specs.Steps.{Step, plain, answer, cutting, unless}
+use Rattle.sem_machine.specs.Steps.{Step, unshown, answer, cutting, unless}
 use Rattle.sem_machine.specs.Calls.{call_row, next_place, open_tests, offer_tests, delegate_tests, bind_tests, destination_tests, session_service, with_held}
 use Rattle.sem_machine.specs.Calls.{ask_made, offer_made}
 use Rattle.sem_machine.specs.Upcalls.{source, source_tests, child_given, parent_tests, delegate_here, delegate_prepared, consented, ask_decided, upcall_row}
@@ -114,7 +114,7 @@ module _ (T : Setup) (A : PlaceName → Target → Type 0) (serves : (place : Pl
   abbrev Good : Step → Type 0
   Good x = Succeeds T A serves x
 
-  silent : (x : Side) → P x → Good (plain x)
+  silent : (x : Side) → P x → Good (unshown x)
   silent x is = (is, λ code none. absurd cc)
 
   well : (s : Side) → P s → Good (answer OkCode s)
@@ -149,7 +149,7 @@ module _ (T : Setup) (A : PlaceName → Target → Type 0) (serves : (place : Pl
       let two : with_held (own s v src) f s ≡ f c = ap (λ o. with_held o f s) held in
       subst Good (sym (one ∙ two)) (offer-served T A serves i v w dst c s is far, λ code none. absurd cc)
   call-succeeds i v s (Revoke src) is asks (c, held) =
-      let f : Capability → Step = λ y. cutting y.key (plain (revoke_begun T i v y.key y.mark s)) in
+      let f : Capability → Step = λ y. cutting y.key (unshown (revoke_begun T i v y.key y.mark s)) in
       let two : with_held (own s v src) f s ≡ f c = ap (λ o. with_held o f s) held in
       subst Good (sym two) (revoke-served T A serves i v c.key c.mark s is, λ code none. absurd cc)
   call-succeeds i v s (Bind ep src) is asks (passed, (c, held)) =
@@ -174,17 +174,17 @@ module _ (T : Setup) (A : PlaceName → Target → Type 0) (serves : (place : Pl
 
   consent-succeeds : (i v : ℕ) (a : Ask) (s : Side) → P s → IsAskBy A v a → AskPasses T i s v a → Good (consented T i v a s)
   consent-succeeds i v (ObtainAsk place target) s is so (passed, from) =
-      subst Good (sym (passed-done (source_tests target (source T s v target)) (λ code. plain (ask_refused T i code (ObtainAsk place target) s))
-      (option_map_or (child_given T i place target s) (source T s v target) (plain s)) passed))
-      (option-keeps Good (child_given T i place target s) (source T s v target) (plain s)
+      subst Good (sym (passed-done (source_tests target (source T s v target)) (λ code. unshown (ask_refused T i code (ObtainAsk place target) s))
+      (option_map_or (child_given T i place target s) (source T s v target) (unshown s)) passed))
+      (option-keeps Good (child_given T i place target s) (source T s v target) (unshown s)
       (λ p there. (given-served T A serves i place target s p is (from p there).0, λ code none. absurd cc)) (silent s is))
   consent-succeeds i v (DelegateAsk parent object sel) s is so (here, far) =
       cond_both (kernel_of T parent.vpe == i) _ _ Good
       (λ at. subst Good (sym
-      (passed-done (parent_tests (cap s parent) ++ destination_tests s v sel) (λ code. plain (ask_refused T i code (DelegateAsk parent object sel) s))
+      (passed-done (parent_tests (cap s parent) ++ destination_tests s v sel) (λ code. unshown (ask_refused T i code (DelegateAsk parent object sel) s))
       (delegate_here T v parent object sel s) (here at))) (here-served T A serves v parent object sel s is, λ code none. absurd cc))
       (λ at. subst Good (sym
-      (passed-done (destination_tests s v sel) (λ code. plain (ask_refused T i code (DelegateAsk parent object sel) s))
+      (passed-done (destination_tests s v sel) (λ code. unshown (ask_refused T i code (DelegateAsk parent object sel) s))
       (delegate_prepared T v parent object sel s)
       (far at))) (prepared-served T A serves v parent object sel s is so, λ code none. absurd cc))
 
@@ -197,7 +197,7 @@ module _ (T : Setup) (A : PlaceName → Target → Type 0) (serves : (place : Pl
 
   upcall-succeeds : (i v : ℕ) (s : Side) → P s → ActPasses T i s (Upcall v) → Good (upcall_row T i s v)
   unfolding upcall_row
-  upcall-succeeds i v s is passes = option-keeps Good (λ (a : Ask). ask_decided T i v a (ask_taken v s)) (slice_get (row s v).asks 0) (plain s)
+  upcall-succeeds i v s is passes = option-keeps Good (λ (a : Ask). ask_decided T i v a (ask_taken v s)) (slice_get (row s v).asks 0) (unshown s)
       (λ a there. let p = passes a there in
       decided-succeeds i v a (ask_taken v s) (served-taken T A serves s is v) (is.asks v a (ask-among T v a s there)) p.0 p.1)
       (silent s is)
@@ -215,13 +215,13 @@ module _ (T : Setup) (A : PlaceName → Target → Type 0) (serves : (place : Pl
   pub step-succeeds : (i : ℕ) (s : Side) (a : Act) (input : Option Message) → P s → IsServedInput input → ActAsks s a → ActPasses T i s a
       → Good (local_step T i s a input)
   unfolding local_step
-  step-succeeds i s (Calls v) input is brings asks passes = option-keeps Good (call_row T i (call_counted v s) v) (next_call T s v) (plain s)
+  step-succeeds i s (Calls v) input is brings asks passes = option-keeps Good (call_row T i (call_counted v s) v) (next_call T s v) (unshown s)
       (λ c there. call-succeeds i v (call_counted v s) c (served-counted T A serves s is v) (asks c there) (passes c there)) (silent s is)
   step-succeeds i s (Upcall v) input is brings asks passes = upcall-succeeds i v s is passes
   step-succeeds i s (Resume v) input is brings asks passes = resume-served T A serves s v is passes
   step-succeeds i s Handle input is brings asks passes = from s.inbox refl
     where
-      from : (o : Option (ℕ × Message)) → s.inbox ≡ o → Good (plain (option_map_or (λ m. handled T i (with_inbox None s) m.0 m.1) o s))
+      from : (o : Option (ℕ × Message)) → s.inbox ≡ o → Good (unshown (option_map_or (λ m. handled T i (with_inbox None s) m.0 m.1) o s))
       from None none = silent s is
       from (Some m) some = (
         handled-served T A serves i (with_inbox None s) m.0 m.1 (served-inbox T A serves s is None (λ f q none. absurd cc)) (is.inbox m.0 m.1 some)

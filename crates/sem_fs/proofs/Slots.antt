@@ -39,7 +39,7 @@ use Rattle.sem_msg.specs.Uses.{memory_tests}
 use Rattle.sem_machine.specs.Sides.{Side, row, slot, own, cap, parked, endpoint, is_alive, call_counted, drawn, promised, with_slot, parked_as, unparked, asked}
 use Rattle.sem_machine.specs.Sides.{ask_taken, linked, cap_added, installed, pending_removed, with_inbox}
 use Rattle.sem_machine.specs.Sound.{kept}
-use Rattle.sem_machine.specs.Steps.{Step, plain, answer}
+use Rattle.sem_machine.specs.Steps.{Step, unshown, answer}
 use Rattle.sem_machine.specs.Asks.{target_vpe, asker, promise_freed, call_refused, refusal_sent, ask_refused}
 use Rattle.sem_machine.specs.Calls.{call_row, next_place, next_key, ask_made, offer_made, open_tests, offer_tests, delegate_tests, bind_tests, with_held}
 use Rattle.sem_machine.specs.Upcalls.{given, given_kind, given_here, ask_decided, upcall_row}
@@ -241,7 +241,7 @@ module _ (v sel : ℕ) (near : sel < GIVEN) (x : Slot) where
 
   upcall-slotted : (T : Setup) (i u : ℕ) (s : Side) → IsServedSide T s → Unawaited s → Slotted s → On (upcall_row T i s u)
   unfolding upcall_row
-  upcall-slotted T i u s served free is = option-keeps On (λ (a : Ask). ask_decided T i u a (ask_taken u s)) (slice_get (row s u).asks 0) (plain s)
+  upcall-slotted T i u s served free is = option-keeps On (λ (a : Ask). ask_decided T i u a (ask_taken u s)) (slice_get (row s u).asks 0) (unshown s)
       (λ a there. decided-slotted T i u a (ask_taken u s) (served.asks u a (ask-among T u a s there)) free (slotted-taken s is u)) is
 
   -- Parked calls that go on. What is installed is a key of the VPE that waits.
@@ -313,7 +313,7 @@ module _ (v sel : ℕ) (near : sel < GIVEN) (x : Slot) where
       → ((u : ℕ) → a ≡ Kill u → ⊥) → Slotted s → On (local_step T i s a input)
   unfolding local_step
   step-slotted T i s (Calls u) input served owns free order living is =
-      option-keeps On (call_row T i (call_counted u s) u) (next_call T s u) (plain s)
+      option-keeps On (call_row T i (call_counted u s) u) (next_call T s u) (unshown s)
       (λ c there. let o = order u c refl there in call-slotted T i u o.0.0 c (call_counted u s) o.0.1 o.1 (slotted-counted s is u)) is
   step-slotted T i s (Upcall u) input served owns free order living is = upcall-slotted T i u s served free is
   step-slotted T i s (Resume u) input served owns free order living is = resume-slotted T u s owns free is
@@ -322,7 +322,7 @@ module _ (v sel : ℕ) (near : sel < GIVEN) (x : Slot) where
       emptied : IsServedSide T (with_inbox None s)
       emptied = record { asks = served.asks; calls = served.calls; pendings = served.pendings; outs = served.outs; inbox = λ f q none. absurd cc }
 
-      from : (o : Option (ℕ × Message)) → On (plain (option_map_or (λ m. handled T i (with_inbox None s) m.0 m.1) o s))
+      from : (o : Option (ℕ × Message)) → On (unshown (option_map_or (λ m. handled T i (with_inbox None s) m.0 m.1) o s))
       from None = is
       from (Some m) = handled-slotted T i (with_inbox None s) m.0 m.1 emptied is
   step-slotted T i s (Fetch j) input served owns free order living is = is

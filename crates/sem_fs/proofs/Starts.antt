@@ -39,7 +39,7 @@ use Rattle.sem_sound.proofs.Holding.{with_cap-has, with_cap-keeps}
 use Rattle.sem_files.specs.Compiled.{SERVER}
 use Rattle.sem_fs.specs.Service.{GIVEN, IsService, IsExtent, holds}
 use Rattle.sem_fs.specs.Serving.{IsServedSide, Served}
-use Rattle.sem_fs.specs.Holding.{home, calls_made, IsHolding, Offers}
+use Rattle.sem_fs.specs.Holding.{home, calls_so_far, IsHolding, Offers}
 use Rattle.sem_fs.specs.Supplies.{IsServing}
 use Rattle.sem_fs.proofs.Sparing.{lives, low, sound}
 use Rattle.sem_fs.proofs.Owned.{slot-cap}
@@ -154,7 +154,7 @@ module _ (T : Setup) (S : IsService T) where
       alive : is_alive (home T (start T) v) v ≡ true
       alive = lives T S [] (no-entries T) v d at
 
-      none-made : calls_made T (start T) v ≡ []
+      none-made : calls_so_far T (start T) v ≡ []
       none-made =
           let told = told-free T S.setup [] (no-entries T) v alive idle in
           ap (λ n. take n (calls_of T v)) (sym told)

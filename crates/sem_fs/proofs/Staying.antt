@@ -42,7 +42,7 @@ use Rattle.sem_msg.specs.Lookups.{kernel_of, place_owner, service_named, denies}
 use Rattle.sem_msg.specs.Uses.{memory_tests}
 use Rattle.sem_machine.specs.Sides.{Side, row, slot, own, cap, parked, endpoint, is_alive, call_counted, drawn, promised, with_slot, parked_as, unparked, asked}
 use Rattle.sem_machine.specs.Sides.{ask_taken, linked, cap_added, installed, pending_removed, send, with_inbox}
-use Rattle.sem_machine.specs.Steps.{Step, plain, answer}
+use Rattle.sem_machine.specs.Steps.{Step, unshown, answer}
 use Rattle.sem_machine.specs.Asks.{target_vpe, asker, is_obtain_wait, is_unawaited, promise_freed, call_refused, refusal_sent, ask_refused}
 use Rattle.sem_machine.specs.Calls.{call_row, next_place, next_key, ask_made, offer_made, open_tests, offer_tests, delegate_tests, bind_tests, with_held}
 use Rattle.sem_machine.specs.Calls.{destination_tests}
@@ -228,7 +228,7 @@ module _ (T : Setup) (s : Side) (v : ℕ) (k : KeyName) (New : Type 0) where
       consent-staying : (a : Ask) → is_unawaited T i taken a ≡ false → On (consented T i u a taken)
       consent-staying (ObtainAsk place target) awaited = unless-keeps On (source_tests target (source T taken u target)) _ _
           (λ code. ask_refused-staying i code (ObtainAsk place target) taken taken-staying)
-          (option-keeps On (child_given T i place target taken) (source T taken u target) (plain taken)
+          (option-keeps On (child_given T i place target taken) (source T taken u target) (unshown taken)
           (λ p there.
           let linking : Side = linked p.key (keyed place (given_kind target p)) taken in
           cond_both (kernel_of T place.vpe == i) (given_here (keyed place (given_kind target p)) p.key (given target place.vpe p)
@@ -256,7 +256,7 @@ module _ (T : Setup) (s : Side) (v : ℕ) (k : KeyName) (New : Type 0) where
 
       upcall-staying : On (upcall_row T i s u)
       unfolding upcall_row
-      upcall-staying = option-keeps On (λ (a : Ask). ask_decided T i u a taken) (slice_get (row s u).asks 0) (plain s)
+      upcall-staying = option-keeps On (λ (a : Ask). ask_decided T i u a taken) (slice_get (row s u).asks 0) (unshown s)
           (λ a there. cond_both (is_unawaited T i taken a) _ _ On (λ _. taken-staying)
           (λ awaited. cond_both (denies T u (asker a)) _ _ On (λ _. ask_refused-staying i Refused a taken taken-staying) (λ _. consent-staying a awaited)))
           start-staying
@@ -327,13 +327,13 @@ module _ (T : Setup) (s : Side) (v : ℕ) (k : KeyName) (New : Type 0) where
         → ((u : ℕ) (c : Call) → a ≡ Calls u → next_call T s u ≡ Some c → (before : List Call) × MayComeNext T u before c) → ((u : ℕ) → a ≡ Kill u → ⊥)
         → On (local_step T i s a input)
     unfolding local_step
-    step-staying i (Calls u) input order living = option-keeps On (call_row T i (call_counted u s) u) (next_call T s u) (plain s)
+    step-staying i (Calls u) input order living = option-keeps On (call_row T i (call_counted u s) u) (next_call T s u) (unshown s)
         (λ c there. let o = order u c refl there in call-staying i u o.0 c (call_counted u s) o.1 (staying-counted s start-staying u)) start-staying
     step-staying i (Upcall u) input order living = upcall-staying i u
     step-staying i (Resume u) input order living = resume-staying i u
     step-staying i Handle input order living = from s.inbox
       where
-        from : (o : Option (ℕ × Message)) → On (plain (option_map_or (λ m. handled T i (with_inbox None s) m.0 m.1) o s))
+        from : (o : Option (ℕ × Message)) → On (unshown (option_map_or (λ m. handled T i (with_inbox None s) m.0 m.1) o s))
         from None = start-staying
         from (Some m) = handled-staying i m.0 m.1
     step-staying i (Fetch j) input order living = start-staying

@@ -10,8 +10,8 @@ use Rattle.sem_files.specs.Files.{Files}
 use Rattle.sem_files.specs.Compiled.{client_calls, compiled}
 use Rattle.sem_fs.specs.Openings.{Opening, IsClosedOpening}
 
-abbrev pub key : ℕ → ℕ → KeyName
-key v n = record { pe = v; vpe = v; kind = MemKind; number = n }
+abbrev pub nth_memory_key : ℕ → ℕ → KeyName
+nth_memory_key v n = record { pe = v; vpe = v; kind = MemKind; number = n }
 
 -- one client, and one file of two extents, written across their border
 unfoldable pub one_client : Files
@@ -52,8 +52,8 @@ first_run T (suc n) W [] = []
 first_run T (suc n) W (e ∷ es) =
     let V : World = after T W e in entry_of T W e ∷ first_run T n V (enabled T V)
 
-abbrev pub run_of : Files → ℕ → List Entry
-run_of F n =
+abbrev pub first_run_of : Files → ℕ → List Entry
+first_run_of F n =
     first_run (compiled F) n (start (compiled F)) (enabled (compiled F) (start (compiled F)))
 
 -- the held keys with their selectors, kernel by kernel
@@ -84,14 +84,14 @@ calls_of_one =
 
 abbrev pub run_of_one : Type 0
 run_of_one =
-    outcome (compiled one_client) (run_of one_client 100)
+    outcome (compiled one_client) (first_run_of one_client 100)
     ≡ record {
       entries = 41;
       made = 6;
       cut = 2;
       held =
-          (key 0 1, 1)
-          ∷ (key 0 2, 2)
+          (nth_memory_key 0 1, 1)
+          ∷ (nth_memory_key 0 2, 2)
           ∷ (record { pe = 0; vpe = 0; kind = ServKind; number = 0 }, 0)
           ∷ (record { pe = 1; vpe = 1; kind = SessKind; number = 0 }, 0)
           ∷ [];
@@ -104,12 +104,12 @@ calls_of_three =
     ≡ OpenSession 0 0 ∷ AskOffer 1 0 12 ∷ Delegate 1 2 148 ∷ Revoke 1 ∷ AskOffer 1 0 12 ∷ []
 
 abbrev pub run_of_three : Type 0
-run_of_three = list_all (λ r. r.code == 0) (replies (run_of three_clients 300)) ≡ true
+run_of_three = list_all (λ r. r.code == 0) (replies (first_run_of three_clients 300)) ≡ true
 
 -- The laws are not empty: these commands pass the tests of the grammar, their run is a schedule,
 -- and after it the file is closed.
 abbrev pub journal_of_one : List Entry
-journal_of_one = run_of one_client 100
+journal_of_one = first_run_of one_client 100
 
 abbrev pub closed_in_one : Type 0
 closed_in_one = (o : Opening one_client) × IsClosedOpening journal_of_one o

@@ -13,8 +13,8 @@ use Rattle.sem_fs.specs.Service.{GIVEN, holds}
 abbrev pub home : Setup → World → ℕ → Side
 home T W v = side W (kernel_of T v)
 
-abbrev pub calls_made : Setup → World → ℕ → List Call
-calls_made T W v = take (row (home T W v) v).next_call (calls_of T v)
+abbrev pub calls_so_far : Setup → World → ℕ → List Call
+calls_so_far T W v = take (row (home T W v) v).next_call (calls_of T v)
 
 -- the key was granted below a root of the server
 pub record IsGiven (T : Setup) (J : List Entry) (k : KeyName) : Type 0 where
@@ -59,19 +59,19 @@ pub record IsHeldExtent (T : Setup) (W : World) (v : ℕ) (k : KeyName) : Type 0
   pub selector : ℕ
   pub beyond : SESSION < selector
   pub near : selector < GIVEN
-  pub held : holds (calls_made T W v) selector ≡ true
+  pub held : holds (calls_so_far T W v) selector ≡ true
   pub at : slot (home T W v) v selector ≡ Held k
 
 pub record IsHolding (T : Setup) (J : List Entry) (v : ℕ) : Type 0 where
   pub held :
-      (sel : ℕ) → sel < GIVEN → holds (calls_made T (world_after T J) v) sel ≡ true
+      (sel : ℕ) → sel < GIVEN → holds (calls_so_far T (world_after T J) v) sel ≡ true
       → Holds T J v sel ⊎ Awaits T (world_after T J) v sel
   pub free :
-      (sel : ℕ) → sel < GIVEN → holds (calls_made T (world_after T J) v) sel ≡ false
+      (sel : ℕ) → sel < GIVEN → holds (calls_so_far T (world_after T J) v) sel ≡ false
       → Lacks T J v sel
   pub awaited :
       (number sel : ℕ) → kept (parked (home T (world_after T J) v) v) ≡ Some (number, sel)
-      → (sel < GIVEN) × (holds (calls_made T (world_after T J) v) sel ≡ true)
+      → (sel < GIVEN) × (holds (calls_so_far T (world_after T J) v) sel ≡ true)
   pub offered :
       (p : KeyName) → Offers (parked (home T (world_after T J) v) v) p
       → IsHeldExtent T (world_after T J) v p

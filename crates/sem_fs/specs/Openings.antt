@@ -16,8 +16,8 @@ is_call_of v (Calls w) = w == v
 is_call_of v act = false
 
 -- how many calls a VPE made
-abbrev pub call_count : List Entry → ℕ → ℕ
-call_count J v = length (filter (λ e. is_call_of v e.event.act) J)
+abbrev pub call_count_of : List Entry → ℕ → ℕ
+call_count_of J v = length (filter (λ e. is_call_of v e.event.act) J)
 
 -- call n of v has its reply
 abbrev pub HasReply : List Entry → ℕ → ℕ → Type 0
@@ -32,7 +32,7 @@ pub record IsGrantedTo (J : List Entry) (v n : ℕ) (k : KeyName) : Type 0 where
   pub among : J ≡ before ++ entry ∷ later
   pub consents : entry.detail ≡ Asked v Yes
   pub grants : entry.grant ≡ Some (parent, k)
-  pub last_call : call_count before v ≡ n + 1
+  pub last_call : call_count_of before v ≡ n + 1
 
 -- Openings.
 

@@ -89,18 +89,18 @@ gives_where w such (Delegate src to dst) = (to == w) && such dst
 gives_where w such c = false
 
 -- how many calls of one VPE give so, and how many of all VPEs
-abbrev pub gives : Setup → ℕ → (ℕ → Bool) → VpeDecl → ℕ
-gives T w such d = length (filter (gives_where w such) (calls_of T d.vpe))
+abbrev pub times_given_by : Setup → ℕ → (ℕ → Bool) → VpeDecl → ℕ
+times_given_by T w such d = length (filter (gives_where w such) (calls_of T d.vpe))
 
 abbrev pub times_given : Setup → ℕ → (ℕ → Bool) → ℕ
-times_given T w such = sum_by (gives T w such) T.vpes
+times_given T w such = sum_by (times_given_by T w such) T.vpes
 
 abbrev pub any : ℕ → Bool
 any sel = true
 
 -- how many numbers a client may draw: for what it is given, and for what it asks for
 abbrev pub draws : Setup → ℕ → VpeDecl → ℕ
-draws T w d = gives T w any d + (if d.vpe == w then length (filter is_ask (calls_of T w)) else 0)
+draws T w d = times_given_by T w any d + (if d.vpe == w then length (filter is_ask (calls_of T w)) else 0)
 
 abbrev pub numbers_wanted : Setup → ℕ → ℕ
 numbers_wanted T w = sum_by (draws T w) T.vpes

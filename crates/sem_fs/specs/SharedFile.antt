@@ -9,7 +9,7 @@ use Rattle.sem_machine.specs.Prelude.{World, event, start, after, entry_of, is_e
 use Rattle.sem_files.specs.declared.files.FileAct.TheVariants.{OpenFile, Write, Share, Close}
 use Rattle.sem_files.specs.Files.{Files}
 use Rattle.sem_files.specs.Compiled.{compiled}
-use Rattle.sem_fs.specs.Examples.{key}
+use Rattle.sem_fs.specs.Examples.{nth_memory_key}
 use Rattle.sem_fs.specs.Openings.{Opening, IsClosedOpening}
 
 unfoldable pub two_clients : Files
@@ -100,8 +100,8 @@ detail_at n = option_map (λ e. e.detail) (slice_get journal_of_two n)
 -- kernel. Client 1 writes after the answer to the close. All 8 replies are successes.
 pub record ClosesWhileSharing : Type 0 where
   pub closes : detail_at 33 ≡ Some (Called 3 (Revoke 1))
-  pub acknowledged : detail_at 34 ≡ Some (Carried 1 (Ack (key 1 2) true))
-  pub arrived : detail_at 38 ≡ Some (Carried 0 (Ack (key 1 2) true))
+  pub acknowledged : detail_at 34 ≡ Some (Carried 1 (Ack (nth_memory_key 1 2) true))
+  pub arrived : detail_at 38 ≡ Some (Carried 0 (Ack (nth_memory_key 1 2) true))
   pub closed : option_map (λ e. e.reply) (slice_get journal_of_two 44)
       ≡ Some (Some (record { vpe = 2; code = 0 }))
   pub writes : detail_at 45 ≡ Some (Called 3 (WriteCall 0 0 100))

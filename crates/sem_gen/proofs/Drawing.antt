@@ -7,8 +7,8 @@ use Rattle.rand_pcg.specs.Pcg.{multiplier_64, pcg32}
 use Rattle.sem_msg.specs.declared.call.Call.{Call}
 use Rattle.sem_msg.specs.declared.setup.Root.{Root}
 use Rattle.sem_msg.specs.declared.setup.VpeDecl.{VpeDecl}
-use Rattle.sem_gen.specs.Drawn.{drawn}
-use Rattle.sem_gen.specs.Generated.{word_at, generator_of, call_of, roots_of, vpe_of}
+use Rattle.sem_gen.specs.Drawn.{drawn_calls}
+use Rattle.sem_gen.specs.Generated.{word_at, generator_of, call_of, generated_roots, vpe_of}
 
 -- j steps and then k
 state-add : (w m i j k s : ℕ) → state_after w m i k (state_after w m i j s) ≡ state_after w m i (j + k) s
@@ -37,20 +37,20 @@ unfolding word_at
 word-later g j m = ap (λ (x : Lcg). (pcg32 x).0) (advance-add g j m)
 
 -- the calls of the words from word j on
-drawn-later : (g : Lcg) (vpes j first n : ℕ) → drawn (advance 64 multiplier_64 j g) vpes first n ≡ drawn g vpes (j + first) n
+drawn-later : (g : Lcg) (vpes j first n : ℕ) → drawn_calls (advance 64 multiplier_64 j g) vpes first n ≡ drawn_calls g vpes (j + first) n
 drawn-later g vpes j first zero = refl
 drawn-later g vpes j first (suc n) =
     let e : j + (first + 1) ≡ (j + first) + 1 = omega arith in
-    let rest : drawn (advance 64 multiplier_64 j g) vpes (first + 1) n ≡ drawn g vpes ((j + first) + 1) n = rw e at (drawn-later g vpes j (first + 1) n) in
+    let rest : drawn_calls (advance 64 multiplier_64 j g) vpes (first + 1) n ≡ drawn_calls g vpes ((j + first) + 1) n = rw e at (drawn-later g vpes j (first + 1) n) in
     rw (word-later g j first, rest) refl
 
-pub drawn-there : (g h : Lcg) (vpes j n : ℕ) → h ≡ advance 64 multiplier_64 j g → drawn h vpes 0 n ≡ drawn g vpes j n
+pub drawn-there : (g h : Lcg) (vpes j n : ℕ) → h ≡ advance 64 multiplier_64 j g → drawn_calls h vpes 0 n ≡ drawn_calls g vpes j n
 drawn-there g h vpes j n at =
     let e : j + 0 ≡ j = omega arith in
-    ap (λ (x : Lcg). drawn x vpes 0 n) at ∙ (drawn-later g vpes j 0 n ∙ ap (λ i. drawn g vpes i n) e)
+    ap (λ (x : Lcg). drawn_calls x vpes 0 n) at ∙ (drawn-later g vpes j 0 n ∙ ap (λ i. drawn_calls g vpes i n) e)
 
-pub drawn-more : (g : Lcg) (vpes n x : ℕ) (list list' : List Call) (c : Call) → list ≡ drawn g vpes 0 n → list' ≡ list ++ c ∷ [] → c ≡ call_of vpes x →
-    x ≡ word_at g n → list' ≡ drawn g vpes 0 (n + 1)
+pub drawn-more : (g : Lcg) (vpes n x : ℕ) (list list' : List Call) (c : Call) → list ≡ drawn_calls g vpes 0 n → list' ≡ list ++ c ∷ [] → c ≡ call_of vpes x →
+    x ≡ word_at g n → list' ≡ drawn_calls g vpes 0 (n + 1)
 drawn-more g vpes n x list list' c so_far pushed is word =
     let e : 0 + n ≡ n = omega arith in
     pushed ∙ (rw (so_far, is, word) (sym (map-range_with_len_more (λ m. call_of vpes (word_at g m)) 0 n n e)))
@@ -64,9 +64,9 @@ words-more g h h' v calls at drawn_all =
 
 -- one more VPE
 pub vpes-more : (seed vpes calls v : ℕ) (h : Lcg) (list list' : List VpeDecl) (roots : List Root) (made : List Call) →
-    h ≡ advance 64 multiplier_64 (v * calls) (generator_of seed) → list ≡ map (vpe_of seed vpes calls) (range_with_len 0 v) → roots ≡ roots_of v →
-    made ≡ drawn h vpes 0 calls → list' ≡ list ++ record { vpe = v; pe = v; roots = roots; calls = made } ∷ [] →
+    h ≡ advance 64 multiplier_64 (v * calls) (generator_of seed) → list ≡ map (vpe_of seed vpes calls) (range_with_len 0 v) → roots ≡ generated_roots v →
+    made ≡ drawn_calls h vpes 0 calls → list' ≡ list ++ record { vpe = v; pe = v; roots = roots; calls = made } ∷ [] →
     list' ≡ map (vpe_of seed vpes calls) (range_with_len 0 (v + 1))
 vpes-more seed vpes calls v h list list' roots made at so_far held drawn_here pushed =
-    let mine : made ≡ drawn (generator_of seed) vpes (v * calls) calls = drawn_here ∙ drawn-there (generator_of seed) h vpes (v * calls) calls at in
+    let mine : made ≡ drawn_calls (generator_of seed) vpes (v * calls) calls = drawn_here ∙ drawn-there (generator_of seed) h vpes (v * calls) calls at in
     pushed ∙ (rw (so_far, held, mine) (sym (map-range_with_len_more (vpe_of seed vpes calls) 0 v v (zero-add v))))

@@ -26,7 +26,7 @@ use Rattle.sem_msg.specs.declared.setup.VpeDecl.{VpeDecl}
 use Rattle.sem_msg.specs.Versions.{most_vpes, most_kernels, IsWindow}
 use Rattle.sem_msg.specs.Calls.{IsValidCall}
 use Rattle.sem_msg.specs.Setup.{Setup, IsSetup, IsVpeDecl, IsRoot, IsOffer, services_from}
-use Rattle.sem_gen.specs.Generated.{word_at, generator_of, target_of, source_of, peer_of, call_of, roots_of, vpe_of, pe_owner_of, owners_of, kernels_of}
+use Rattle.sem_gen.specs.Generated.{word_at, generator_of, target_of, source_of, peer_of, call_of, generated_roots, vpe_of, pe_owner_of, owners_of, kernels_of}
 use Rattle.sem_gen.specs.Generated.{version_of, generated}
 
 -- a word has 32 bits
@@ -128,7 +128,7 @@ owned-below vpes p some =
       | inr past ↦ absurd (false≢true (sym (ap is_some (unowned vpes p past)) ∙ some))
     ]
 
-root-is : (v : ℕ) → v < 128 → All IsRoot (roots_of v)
+root-is : (v : ℕ) → v < 128 → All IsRoot (generated_roots v)
 root-is v small =
     let root : Root = record { sel = 0; object = Mem (v * 65536) 65536 RIGHTS } in
     All-cons IsRoot root [] (record { selector = omega arith; kind = tt; ranges = ((omega arith), (omega arith), (omega arith), (omega arith)) })

@@ -6,5 +6,5 @@ use Rattle.sem_msg.specs.declared.call.Call.{Call}
 use Rattle.sem_gen.specs.Generated.{word_at, call_of}
 
 -- the calls of n words of a generator, from one of its words on, in a setup with that many VPEs
-abbrev pub drawn : Lcg → ℕ → ℕ → ℕ → List Call
-drawn g vpes first n = map (λ m. call_of vpes (word_at g m)) (range_with_len first n)
+abbrev pub drawn_calls : Lcg → ℕ → ℕ → ℕ → List Call
+drawn_calls g vpes first n = map (λ m. call_of vpes (word_at g m)) (range_with_len first n)

@@ -43,17 +43,17 @@ call_of vpes x =
     else Revoke (target_of x)
 
 -- a VPE holds 65536 bytes of memory of its own, with all rights, at selector 0
-abbrev pub roots_of : ℕ → List Root
-roots_of v = record { sel = 0; object = Mem (v * 65536) 65536 RIGHTS } ∷ []
+abbrev pub generated_roots : ℕ → List Root
+generated_roots v = record { sel = 0; object = Mem (v * 65536) 65536 RIGHTS } ∷ []
 
 -- the calls of VPE v, if each VPE has that many: one for each word, after the words of the VPEs
 -- before it
-abbrev pub calls_of : ℕ → ℕ → ℕ → ℕ → List Call
-calls_of seed vpes calls v = map (λ m. call_of vpes (words_of seed m)) (range_with_len (v * calls) calls)
+abbrev pub generated_calls : ℕ → ℕ → ℕ → ℕ → List Call
+generated_calls seed vpes calls v = map (λ m. call_of vpes (words_of seed m)) (range_with_len (v * calls) calls)
 
 -- VPE v runs on PE v
 abbrev pub vpe_of : ℕ → ℕ → ℕ → ℕ → VpeDecl
-vpe_of seed vpes calls v = record { vpe = v; pe = v; roots = roots_of v; calls = calls_of seed vpes calls v }
+vpe_of seed vpes calls v = record { vpe = v; pe = v; roots = generated_roots v; calls = generated_calls seed vpes calls v }
 
 -- PE p belongs to kernel p mod kernels, if a VPE is on it
 abbrev pub pe_owner_of : ℕ → ℕ → ℕ → Option ℕ

@@ -2,7 +2,7 @@
 ghost use Rattle.std.specs.Prelude.{◌≡◌, ◌≤◌, IfOk, OnOk};
 ghost use Rattle.rand_pcg.specs.Lcg.{advance};
 ghost use Rattle.rand_pcg.specs.Pcg.{multiplier_64};
-ghost use Rattle.sem_gen.specs.Drawn.{drawn};
+ghost use Rattle.sem_gen.specs.Drawn.{drawn_calls};
 ghost use Rattle.sem_gen.specs.Generated.{call_of as call_of_spec};
 
 use rand_core::utils::NextWord;
@@ -20,7 +20,7 @@ pub fn draw_calls(
 ) -> Result<Calls, OutOfMemory>
     requires some { 1 ≤ vpes }
     requires few { vpes ≤ 128 }
-    ensures calls { IfOk result (λ list. list ≡ drawn words.old vpes 0 calls) }
+    ensures calls { IfOk result (λ list. list ≡ drawn_calls words.old vpes 0 calls) }
     ensures words { OnOk result (words.new ≡ advance 64 multiplier_64 calls words.old) }
 {
     let mut list = Calls::new(alloc);

@@ -17,7 +17,7 @@ use Rattle.sem_msg.specs.Setup.{Setup}
 use Rattle.sem_msg.specs.Journal.{part, replies}
 use Rattle.sem_msg.specs.Lookups.{kernel_of}
 use Rattle.sem_machine.specs.Sides.{Side, row, parked, is_alive, ask_taken}
-use Rattle.sem_machine.specs.Steps.{Step, plain}
+use Rattle.sem_machine.specs.Steps.{Step, unshown}
 use Rattle.sem_machine.specs.Resumes.{can_resume}
 use Rattle.sem_machine.specs.Upcalls.{ask_decided, upcall_row}
 use Rattle.sem_machine.specs.Machine.{World, start, side, after, next_call, local_step, local_entry, input_of, is_allowed, is_enabled, is_locally_enabled}
@@ -30,7 +30,7 @@ use Rattle.sem_histories.specs.Outcomes.{codes_to}
 -- an upcall answers no call
 upcall-silent : (T : Setup) (i u : ℕ) (s : Side) → (upcall_row T i s u).outcome.reply ≡ None
 unfolding upcall_row
-upcall-silent T i u s = option-keeps (λ (x : Step). x.outcome.reply ≡ None) (λ a. ask_decided T i u a (ask_taken u s)) (slice_get (row s u).asks 0) (plain s)
+upcall-silent T i u s = option-keeps (λ (x : Step). x.outcome.reply ≡ None) (λ a. ask_decided T i u a (ask_taken u s)) (slice_get (row s u).asks 0) (unshown s)
     (λ a there. decided-by (λ (x : Step). x.outcome.reply ≡ None) (λ w x is. is) (λ w x is. is) (λ w x is. is) T i u a (ask_taken u s)
     (record {
       nothing = refl;

@@ -11,7 +11,7 @@ use Rattle.std.proofs.lemmas.Grind.{common_steps}
 use Rattle.sem_msg.specs.Rows.{JobRow}
 use Rattle.sem_msg.specs.declared.state.Up.{Up}
 use Rattle.sem_msg.specs.declared.state.Up.TheVariants.{Local, Remote}
-use Rattle.sem_msg.specs.JobRows.{job_of, job_changed, job_removed, count_lowered, told, ids_of}
+use Rattle.sem_msg.specs.JobRows.{job_of, job_changed, job_removed, count_lowered, token_given_back, ids_of}
 use Rattle.sem_jobs.specs.JobStore.{HasRisingIds, IsPlaceOf, is_done}
 use Rattle.sem_jobs.specs.Chain.{Chain, is_last_token, next_done, chain}
 use Rattle.sem_jobs.proofs.JobPlaces.{found-changed, changed, removed, ids-removed}
@@ -64,12 +64,12 @@ ids-changed : (j : ℕ) (f : JobRow → JobRow) (keeps : (x : JobRow) → (f x).
 ids-changed j f keeps [] = refl
 ids-changed j f keeps (x ∷ xs) = let tail = ids-changed j f keeps xs in grind (arith, common_steps, keeps x)
 
-ids-told : (up : Option Up) (xs : List JobRow) → ids_of (told up xs) ≡ ids_of xs
+ids-told : (up : Option Up) (xs : List JobRow) → ids_of (token_given_back up xs) ≡ ids_of xs
 ids-told None xs = refl
 ids-told (Some (Local j)) xs = ids-changed j (λ (x : JobRow). record x { count = x.count - 1 }) (λ x. refl) xs
 ids-told (Some (Remote kernel j)) xs = refl
 
-length-told : (up : Option Up) (xs : List JobRow) → length (told up xs) ≡ length xs
+length-told : (up : Option Up) (xs : List JobRow) → length (token_given_back up xs) ≡ length xs
 length-told None xs = refl
 length-told (Some (Local j)) xs = length-map xs _
 length-told (Some (Remote kernel j)) xs = refl
@@ -110,16 +110,16 @@ module _ (xs : List JobRow) (next : ℕ) (ids : HasRisingIds (ids_of xs) next) (
 
   -- a turn of the chain, with any bound
   chain-turn : (m : ℕ) → chain (suc m) (Some x) xs ≡ record {
-    left = (chain m (next_done x.up (job_removed j xs)) (told x.up (job_removed j xs))).left;
-    gone = x ∷ (chain m (next_done x.up (job_removed j xs)) (told x.up (job_removed j xs))).gone;
+    left = (chain m (next_done x.up (job_removed j xs)) (token_given_back x.up (job_removed j xs))).left;
+    gone = x ∷ (chain m (next_done x.up (job_removed j xs)) (token_given_back x.up (job_removed j xs))).gone;
   }
   unfolding chain
   chain-turn m = rw id-found refl
 
-  pub ids-left : HasRisingIds (ids_of (told x.up (job_removed j xs))) next
+  pub ids-left : HasRisingIds (ids_of (token_given_back x.up (job_removed j xs))) next
   ids-left = rw (ids-told x.up (job_removed j xs)) (ids-removed xs next ids j)
 
-  pub length-left : length (told x.up (job_removed j xs)) + 1 ≡ length xs
+  pub length-left : length (token_given_back x.up (job_removed j xs)) + 1 ≡ length xs
   length-left = let less = shorter in let same = length-told x.up (job_removed j xs) in omega arith
 
 -- The chain of nothing.
@@ -135,12 +135,12 @@ pub record IsTurn (whole rest : Chain) (x : JobRow) (xs zs : List JobRow) : Type
   pub one_less : length zs + 1 ≡ length xs
 
 pub turned : (xs ys zs : List JobRow) (next : ℕ) (j : ℕ) (x : JobRow) (up : Option Up) (o : Option JobRow) → HasRisingIds (ids_of xs) next →
-    Some x ≡ job_of xs j → ys ≡ job_removed j xs → up ≡ x.up → zs ≡ told up ys → o ≡ next_done up ys →
+    Some x ≡ job_of xs j → ys ≡ job_removed j xs → up ≡ x.up → zs ≡ token_given_back up ys → o ≡ next_done up ys →
     IsTurn (chain (length xs) (job_of xs j) xs) (chain (length zs) o zs) x xs zs
 turned xs ys zs next j x up o ids found left same is_told done =
     let found : job_of xs j ≡ Some x = sym found in
-    let long : suc (length (told x.up (job_removed j xs))) ≡ length xs = let less = length-left xs next ids j x found in omega arith in
-    rw (is_told, done, same, left, found, ← long, chain-turn xs next ids j x found (length (told x.up (job_removed j xs))))
+    let long : suc (length (token_given_back x.up (job_removed j xs))) ≡ length xs = let less = length-left xs next ids j x found in omega arith in
+    rw (is_told, done, same, left, found, ← long, chain-turn xs next ids j x found (length (token_given_back x.up (job_removed j xs))))
     (record { left = refl; gone = refl; one_less = omega arith })
 
 -- The bound: more turns than jobs change nothing.
@@ -161,7 +161,7 @@ there-found xs j = of_id (job_of xs j) refl
         by_place (at, has) = subst (λ n. job_of xs n ≡ Some x) (sym has.id) is
 
 -- so is the job that is finished next
-there-next : (up : Option Up) (ys : List JobRow) → IsThere (told up ys) (next_done up ys)
+there-next : (up : Option Up) (ys : List JobRow) → IsThere (token_given_back up ys) (next_done up ys)
 there-next None ys = tt
 there-next (Some (Remote kernel j)) ys = tt
 there-next (Some (Local j)) ys = by_test (is_last_token (job_of ys j))
@@ -177,7 +177,7 @@ chain-more zero m next (Some x) xs ids there few few' = let less = length-left x
 chain-more (suc n) zero next (Some x) xs ids there few few' = let less = length-left xs next ids x.id x there in absurd (omega arith)
 chain-more (suc n) (suc m) next (Some x) xs ids there few few' =
     let less = length-left xs next ids x.id x there in
-    let rest = chain-more n m next (next_done x.up (job_removed x.id xs)) (told x.up (job_removed x.id xs)) (ids-left xs next ids x.id x there)
+    let rest = chain-more n m next (next_done x.up (job_removed x.id xs)) (token_given_back x.up (job_removed x.id xs)) (ids-left xs next ids x.id x there)
     (there-next x.up (job_removed x.id xs)) (omega arith) (omega arith) in
     rw (chain-turn xs next ids x.id x there n, chain-turn xs next ids x.id x there m, rest) refl
 

@@ -5,7 +5,7 @@ use Rattle.std.specs.Option.{option_map_or}
 use Rattle.sem_msg.specs.declared.state.Up.{Up}
 use Rattle.sem_msg.specs.declared.state.Up.TheVariants.{Local, Remote}
 use Rattle.sem_msg.specs.Prelude.{JobRow}
-use Rattle.sem_msg.specs.JobRows.{job_of, job_removed, count_lowered, told}
+use Rattle.sem_msg.specs.JobRows.{job_of, job_removed, count_lowered, token_given_back}
 
 -- what a chain of finishing jobs leaves, and the jobs that it takes out, in order
 pub record Chain : Type 0 where
@@ -29,7 +29,7 @@ chain zero o xs = record { left = xs; gone = [] }
 chain (suc n) None xs = record { left = xs; gone = [] }
 chain (suc n) (Some x) xs =
     let others : List JobRow = job_removed x.id xs in
-    let rest : Chain = chain n (next_done x.up others) (told x.up others) in
+    let rest : Chain = chain n (next_done x.up others) (token_given_back x.up others) in
     record { left = rest.left; gone = x ∷ rest.gone }
 
 -- the chain of the job of that id; each of its jobs is taken out of the list, so it has no more

@@ -10,7 +10,7 @@ use Rattle.sem_trace.specs.declared.fault.Cause.{Cause}
 use Rattle.sem_trace.specs.declared.fault.Cause.TheVariants.{OutOfRange, UnknownWord}
 use Rattle.sem_trace.specs.Forms.{Place, place_fault, form_fault, at_word}
 use Rattle.sem_trace.specs.Forms.Place.{Word}
-use Rattle.sem_trace.specs.Places.{Fills, left_at, placed}
+use Rattle.sem_trace.specs.Places.{Fills, left_at, fault_after}
 use Rattle.sem_trace.proofs.PlaceSteps.{unmapped, line_fault_is, no_line_fault}
 use Rattle.sem_journal.proofs.WordChoices.{FailsAt}
 use Rattle.sem_msg.specs.declared.event.Act.{Act}
@@ -110,7 +110,7 @@ shown_fault version kernels words rest behind fills event =
 
 -- the fault of the form
 pub fault_behind : (version kernels : ℕ) (words rest : List (List ℕ)) (cause : Cause) →
-    form_fault (entry_form version kernels words) words ≡ Some (cause, left_at cause rest) → entry_fault version kernels words ≡ Some (placed cause words rest)
+    form_fault (entry_form version kernels words) words ≡ Some (cause, left_at cause rest) → entry_fault version kernels words ≡ Some (fault_after cause words rest)
 unfolding entry_fault
 fault_behind version kernels words rest cause fault = rw (line_fault_is (entry_form version kernels words) words rest cause fault) refl
 

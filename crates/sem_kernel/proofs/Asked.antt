@@ -23,7 +23,7 @@ use Rattle.sem_msg.specs.Setup.{Setup, IsSetup}
 use Rattle.sem_msg.specs.Lookups.{kernel_of, place_owner, pe_of, offered}
 use Rattle.sem_caps.specs.CapStore.{held_key}
 use Rattle.sem_machine.specs.Sides.{Side, no_side, row, slot, cap, cap_in, own, parked, pending, ask_taken}
-use Rattle.sem_machine.specs.Steps.{Step, plain}
+use Rattle.sem_machine.specs.Steps.{Step, unshown}
 use Rattle.sem_machine.specs.Upcalls.{source, ask_decided, upcall_row}
 use Rattle.sem_machine.specs.Resumes.{can_resume}
 use Rattle.sem_machine.specs.Sound.{IsSound, IsSoundAsk, IsPlaceNamed}
@@ -46,7 +46,7 @@ unfolding upcall_row
 upcall-is T i v s a rows x front taken is =
     is
     ∙ (ap (λ (r : List VpeRow). ask_decided T i v a (record s { vpes = r })) taken
-    ∙ sym (ap (λ (o : Option Ask). option_map_or (λ b. ask_decided T i v b (ask_taken v s)) o (plain s)) front))
+    ∙ sym (ap (λ (o : Option Ask). option_map_or (λ b. ask_decided T i v b (ask_taken v s)) o (unshown s)) front))
 
 -- an ask that is taken leaves the selectors
 taken-slot : (s : Side) (v sel : ℕ) → slot (ask_taken v s) v sel ≡ slot s v sel

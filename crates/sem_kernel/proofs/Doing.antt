@@ -13,7 +13,7 @@ use Rattle.sem_machine.specs.Sound.{IsSound}
 use Rattle.sem_machine.specs.Machine.{local_step, local_entry}
 use Rattle.sem_sound.proofs.Stepping.{step-sound}
 use Rattle.sem_kernel.specs.KernelValue.{KernelValue, IsInput}
-use Rattle.sem_kernel.specs.Worlds.{is_passable, taken, carried, CanAct, CanDo, CanTry, HasDone, HasReplied}
+use Rattle.sem_kernel.specs.Worlds.{is_passable, taken, fabric_moved, CanAct, CanDo, CanTry, HasDone, HasReplied}
 use Rattle.sem_kernel.proofs.Entries.{sound-input}
 use Rattle.sem_kernel.proofs.Peers.{able-below}
 
@@ -41,7 +41,7 @@ passable-placed n f i (Flush j) = refl
 passable-placed n f i (Kill v) = refl
 
 -- only links are changed, and by what was in them
-carried-rest : (i : ℕ) (s : Side) (act : Act) (f : FabricValue) → carried i s act f ≡ record f { links = (carried i s act f).links }
+carried-rest : (i : ℕ) (s : Side) (act : Act) (f : FabricValue) → fabric_moved i s act f ≡ record f { links = (fabric_moved i s act f).links }
 carried-rest i s (Calls v) f = refl
 carried-rest i s (Resume v) f = refl
 carried-rest i s (Upcall v) f = refl
@@ -55,7 +55,7 @@ carried-rest i s (Flush j) f = from (slice_get (outbox s j) 0)
     from (Some m) = refl
 carried-rest i s (Kill v) f = refl
 
-carried-placed : (n : ℕ) (i : ℕ) (s : Side) (act : Act) (f : FabricValue) → (carried i s act (placed n f)).links ≡ (carried i s act f).links
+carried-placed : (n : ℕ) (i : ℕ) (s : Side) (act : Act) (f : FabricValue) → (fabric_moved i s act (placed n f)).links ≡ (fabric_moved i s act f).links
 carried-placed n i s (Calls v) f = refl
 carried-placed n i s (Resume v) f = refl
 carried-placed n i s (Upcall v) f = refl
@@ -71,7 +71,7 @@ carried-placed n i s (Kill v) f = refl
 
 -- The kernel k takes the input, and makes the entry e; the fabric f becomes q by what is carried.
 module _ (k : KernelValue) (f : FabricValue) (act : Act) (can : CanTry k f act) (input : Option Message) (took : input ≡ taken f k.id act) (q : FabricValue)
-    (moved : q ≡ carried k.id k.side act f) (e : Entry) (made : e ≡ local_entry k.setup k.id k.side act input) where
+    (moved : q ≡ fabric_moved k.id k.side act f) (e : Entry) (made : e ≡ local_entry k.setup k.id k.side act input) where
   made-kernel : e.event.kernel ≡ k.id
   unfolding local_entry
   made-kernel = ap (λ (x : Entry). x.event.kernel) made

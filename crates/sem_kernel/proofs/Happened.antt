@@ -23,7 +23,7 @@ use Rattle.sem_machine.specs.Sound.{IsSound}
 use Rattle.sem_machine.specs.Machine.{World, side, is_locally_enabled, is_allowed, is_enabled, local_step, local_entry, link_moved, input_of, reply_counted}
 use Rattle.sem_machine.specs.Machine.{after, entry_of, replied_vpe}
 use Rattle.sem_kernel.specs.KernelValue.{KernelValue, is_timely}
-use Rattle.sem_kernel.specs.Worlds.{world_of, IsKernelOf, IsFabricOf, AreKernelsOf, is_passable, taken, carried, can_do, CanDo, HasDone, HasReplied, HasNotDone}
+use Rattle.sem_kernel.specs.Worlds.{world_of, IsKernelOf, IsFabricOf, AreKernelsOf, is_passable, taken, fabric_moved, can_do, CanDo, HasDone, HasReplied, HasNotDone}
 
 -- With a fabric, whatever the kernels are.
 
@@ -59,7 +59,7 @@ input-is ks f i (Kill v) = refl
 moved-is : (f : FabricValue) (i : ℕ) (s : Side) (sides : List Side) (n : ℕ) (act : Act) →
     ◌≡◌ {A = World} (link_moved i s act (record { sides = sides; links = f.links; replies = n })) (record {
       sides = sides;
-      links = (carried i s act f).links;
+      links = (fabric_moved i s act f).links;
       replies = n;
     })
 moved-is f i s sides n (Calls v) = refl
@@ -213,8 +213,8 @@ module _ (T : Setup) (ks : List KernelValue) (f : FabricValue) (are : AreKernels
         ∙ (ap (set W.sides i) new-side
         ∙ sym (put-set no_side W.sides i x.side (let long = length-map ks (λ (y : KernelValue). y.side) in let lt = within in omega (arith, lt, long))))
 
-    new-links : g.links ≡ (carried i (side W i) act f).links
-    new-links = done.links ∙ here (λ S j s. (carried j s act f).links)
+    new-links : g.links ≡ (fabric_moved i (side W i) act f).links
+    new-links = done.links ∙ here (λ S j s. (fabric_moved j s act f).links)
 
     new-replies : length (replies g.journal) ≡ option_map_or (λ code. W.replies + 1) x.outcome.reply W.replies
     unfolding entry_of local_entry

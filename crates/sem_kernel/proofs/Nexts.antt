@@ -19,7 +19,7 @@ use Rattle.sem_msg.specs.Setup.{Setup, IsSetup}
 use Rattle.sem_msg.specs.Lookups.{kernel_of, calls_of}
 use Rattle.sem_vpe.specs.VpeTable.{slot_key}
 use Rattle.sem_machine.specs.Sides.{Side, row, slot, call_counted, with_inbox}
-use Rattle.sem_machine.specs.Steps.{Step, plain}
+use Rattle.sem_machine.specs.Steps.{Step, unshown}
 use Rattle.sem_machine.specs.Calls.{call_row}
 use Rattle.sem_machine.specs.Handles.{handled}
 use Rattle.sem_machine.specs.Sound.{IsSound, ids_owed, ids_paid}
@@ -80,7 +80,7 @@ unfolding local_step
 call-step T i v s rows call x counted next is =
     is
     ∙ (ap (λ (r : List VpeRow). call_row T i (record s { vpes = r }) v call) counted
-    ∙ sym (ap (λ (o : Option Call). option_map_or (call_row T i (call_counted v s) v) o (plain s)) next))
+    ∙ sym (ap (λ (o : Option Call). option_map_or (call_row T i (call_counted v s) v) o (unshown s)) next))
 
 pub call-detail : (T : Setup) (v index : ℕ) (s : Side) (call : Call) (o : Outcome) → index ≡ (row s v).next_call → next_call T s v ≡ Some call →
     Called index call ≡ detail_of T s (Calls v) None o
@@ -90,10 +90,10 @@ call-detail T v index s call o counted next =
 
 -- the step of a message, and its detail
 pub handle-step : (T : Setup) (i : ℕ) (s t : Side) (from : ℕ) (m : Message) → s.inbox ≡ Some (from, m) → t ≡ handled T i (with_inbox None s) from m →
-    plain t ≡ local_step T i s Handle None
+    unshown t ≡ local_step T i s Handle None
 unfolding local_step
 handle-step T i s t from m inbox is =
-    ap plain (is ∙ sym (ap (λ (o : Option (ℕ × Message)). option_map_or (λ q. handled T i (with_inbox None s) q.0 q.1) o s) inbox))
+    ap unshown (is ∙ sym (ap (λ (o : Option (ℕ × Message)). option_map_or (λ q. handled T i (with_inbox None s) q.0 q.1) o s) inbox))
 
 pub handle-detail : (T : Setup) (s : Side) (from : ℕ) (m : Message) (o : Outcome) → s.inbox ≡ Some (from, m) → Carried from m ≡ detail_of T s Handle None o
 handle-detail T s from m o inbox = sym (ap (λ (q : Option (ℕ × Message)). option_map_or (λ p. Carried p.0 p.1) q Nothing) inbox)

@@ -55,11 +55,11 @@ taken f i act = None
 
 -- the fabric after the message of an act of kernel i has moved: out of a link for a fetch, into one
 -- for a flush
-abbrev pub carried : ℕ → Side → Act → FabricValue → FabricValue
-carried i s (Fetch j) f = relinked j i (drop 1 (link_in f.links j i)) f
-carried i s (Flush j) f =
+abbrev pub fabric_moved : ℕ → Side → Act → FabricValue → FabricValue
+fabric_moved i s (Fetch j) f = relinked j i (drop 1 (link_in f.links j i)) f
+fabric_moved i s (Flush j) f =
     option_map_or (λ m. relinked i j (link_in f.links i j ++ m ∷ []) f) (slice_get (outbox s j) 0) f
-carried i s act f = f
+fabric_moved i s act f = f
 
 -- an act that names no other kernel, or one below n
 abbrev pub NamesPeer : ℕ → ℕ → Act → Type 0
@@ -100,7 +100,7 @@ pub record HasDone (k : KernelValue) (f : FabricValue) (act : Act) (l : KernelVa
   pub entry : e ≡ local_entry k.setup k.id k.side act (taken f k.id act)
   pub kernel : l ≡ record k { side = (local_step k.setup k.id k.side act (taken f k.id act)).side; ready = None }
   pub sound : IsSound k.setup k.id l.side
-  pub links : g.links ≡ (carried k.id k.side act f).links
+  pub links : g.links ≡ (fabric_moved k.id k.side act f).links
   pub journal : g.journal ≡ f.journal ++ e ∷ []
   pub fabric : IsFabricOf k.setup g
   pub others : (j : ℕ) → j ≢ k.id → slice_index_or g.places j false ≡ slice_index_or f.places j false

@@ -3,7 +3,7 @@ ghost use Rattle.std.specs.Prelude.{◌≡◌, ◌<◌, ◌&&◌, true};
 ghost use Rattle.sem_msg.specs.declared.event.Act.TheVariants.{Flush};
 ghost use Rattle.sem_machine.specs.Machine.{is_locally_enabled};
 ghost use Rattle.sem_kernel.specs.KernelValue.{is_timely, IsInput};
-ghost use Rattle.sem_kernel.specs.Worlds.{is_passable as is_passable_spec, taken, carried};
+ghost use Rattle.sem_kernel.specs.Worlds.{is_passable as is_passable_spec, taken, fabric_moved};
 ghost use Rattle.sem_kernel.specs.Worlds.{NamesPeer, CanDo};
 
 use crate::kernel::Kernel;
@@ -29,7 +29,7 @@ pub fn carry(kernel: &Kernel, fabric: &mut Fabric, act: Act) -> Option<Message>
     requires { CanDo kernel.now fabric.old act }
     ensures taken { result ≡ taken fabric.old kernel.now.id act }
     ensures input { IsInput act result }
-    ensures carried { fabric.new ≡ carried kernel.now.id kernel.now.side act fabric.old }
+    ensures fabric_moved { fabric.new ≡ fabric_moved kernel.now.id kernel.now.side act fabric.old }
 {
     match act {
         Act::Fetch { from } => fabric.fetch(kernel.id(), from),
@@ -44,7 +44,7 @@ pub fn carry(kernel: &Kernel, fabric: &mut Fabric, act: Act) -> Option<Message>
 // Moves the oldest message that waits for the kernel `to` into its link.
 fn send(kernel: &Kernel, fabric: &mut Fabric, to: u32)
     requires { CanDo kernel.now fabric.old (Flush to) }
-    ensures { fabric.new ≡ carried kernel.now.id kernel.now.side (Flush to) fabric.old }
+    ensures { fabric.new ≡ fabric_moved kernel.now.id kernel.now.side (Flush to) fabric.old }
 {
     let Some(message) = kernel.front(to) else {
         unreachable!()

@@ -10,7 +10,7 @@ use Rattle.sem_machine.specs.Living.{IsQuiet, IsIdle}
 use Rattle.sem_machine.specs.Seeded.{entry_limit}
 use Rattle.sem_bound.specs.Counts.{calls_made, kills_made}
 use Rattle.sem_bound.specs.Costs.{costs_made, costs_declared}
-use Rattle.sem_messages.specs.Messages.{sent, messages_made, grants_across, grants_told}
+use Rattle.sem_messages.specs.Messages.{all_sent, messages_made, grants_across, grants_told}
 use Rattle.sem_messages.specs.Messages.{IsAnswered, count_sent, is_revoke_req}
 use Rattle.sem_revoke.specs.Resting.{IsAtRest}
 use Rattle.sem_parts.specs.Parts.{AreParts}
@@ -41,7 +41,7 @@ pub record IsPaidByCalls (T : Setup) (J : List Entry) : Type 0 where
 pub record CountsMessages (T : Setup) (J : List Entry) : Type 0 where
   pub answered : IsIdle (world_after T J) → IsAnswered J
   pub told : IsIdle (world_after T J) → grants_across T J ≡ grants_told J
-  pub counted : IsIdle (world_after T J) → length (sent J) ≡ messages_made J
+  pub counted : IsIdle (world_after T J) → length (all_sent J) ≡ messages_made J
   pub few_revokes : count_sent is_revoke_req J ≤ grants_across T J
 
 -- a schedule exactly if its parts are local runs that agree

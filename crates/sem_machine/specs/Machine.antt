@@ -26,7 +26,7 @@ use Rattle.sem_msg.specs.Lookups.{own_vpes}
 use Rattle.sem_msg.specs.declared.entry.Outcome.{Outcome}
 use Rattle.sem_machine.specs.Sides.{Side, no_side, row, parked, outbox, is_alive, with_row, call_counted, cap_added}
 use Rattle.sem_machine.specs.Sides.{with_inbox, sent}
-use Rattle.sem_machine.specs.Steps.{Step, plain}
+use Rattle.sem_machine.specs.Steps.{Step, unshown}
 use Rattle.sem_machine.specs.Ends.{ended}
 use Rattle.sem_machine.specs.Calls.{call_row}
 use Rattle.sem_machine.specs.Upcalls.{upcall_row}
@@ -99,13 +99,13 @@ next_call T s v = slice_get (calls_of T v) (row s v).next_call
 
 -- What an act does to the side of kernel i. A fetch gets the message that it takes out of the link.
 unfoldable pub local_step : Setup → ℕ → Side → Act → Option Message → Step
-local_step T i s (Calls v) input = option_map_or (call_row T i (call_counted v s) v) (next_call T s v) (plain s)
-local_step T i s (Fetch from) input = plain (with_inbox (option_map (λ m. (from, m)) input) s)
-local_step T i s Handle input = plain (option_map_or (λ m. handled T i (with_inbox None s) m.0 m.1) s.inbox s)
+local_step T i s (Calls v) input = option_map_or (call_row T i (call_counted v s) v) (next_call T s v) (unshown s)
+local_step T i s (Fetch from) input = unshown (with_inbox (option_map (λ m. (from, m)) input) s)
+local_step T i s Handle input = unshown (option_map_or (λ m. handled T i (with_inbox None s) m.0 m.1) s.inbox s)
 local_step T i s (Upcall v) input = upcall_row T i s v
 local_step T i s (Resume v) input = resume_row T s v
-local_step T i s (Flush to) input = plain (sent to s)
-local_step T i s (Kill v) input = plain (ended T i v s)
+local_step T i s (Flush to) input = unshown (sent to s)
+local_step T i s (Kill v) input = unshown (ended T i v s)
 
 -- what an entry tells besides its act: the call, the message, or the VPE that asked
 abbrev pub asked_detail : Outcome → Detail

@@ -16,7 +16,7 @@ use Rattle.sem_msg.specs.declared.state.Up.TheVariants.{Remote}
 use Rattle.sem_msg.specs.JobRows.{if_done, job_of}
 use Rattle.sem_msg.specs.Setup.{Setup}
 use Rattle.sem_machine.specs.Sides.{Side, cap, own, parked_as, send}
-use Rattle.sem_machine.specs.Steps.{answer, cutting, first_code, plain}
+use Rattle.sem_machine.specs.Steps.{answer, cutting, first_code, unshown}
 use Rattle.sem_machine.specs.Calls.{clear_row, own_tests, revoke_row, with_held}
 use Rattle.sem_machine.specs.Handles.{handle_row}
 use Rattle.sem_machine.specs.Revokes.{begin, clear_begun, finish, finished, obtain_cancelled, request_begun, revoke_begun, revoke_requested, settled}
@@ -56,25 +56,25 @@ children-few caps root =
 module _ (T : Setup) (i : ℕ) (s : Side) (v sel : ℕ) where
   -- revoke, where nothing is held
   pub revoke-none : None ≡ own s v sel → revoke_row T i s v sel ≡ answer NoCap s
-  revoke-none none = ap (λ o. with_held o (λ c. cutting c.key (plain (revoke_begun T i v c.key c.mark s))) s) (sym none)
+  revoke-none none = ap (λ o. with_held o (λ c. cutting c.key (unshown (revoke_begun T i v c.key c.mark s))) s) (sym none)
 
   -- revoke, of a capability
-  revoke-held : (c : Capability) → Some c ≡ own s v sel → revoke_row T i s v sel ≡ cutting c.key (plain (revoke_begun T i v c.key c.mark s))
-  revoke-held c held = ap (λ o. with_held o (λ c. cutting c.key (plain (revoke_begun T i v c.key c.mark s))) s) (sym held)
+  revoke-held : (c : Capability) → Some c ≡ own s v sel → revoke_row T i s v sel ≡ cutting c.key (unshown (revoke_begun T i v c.key c.mark s))
+  revoke-held c held = ap (λ o. with_held o (λ c. cutting c.key (unshown (revoke_begun T i v c.key c.mark s))) s) (sym held)
 
   -- which a job has marked
   pub revoke-marked : (c : Capability) (j : ℕ) → Some c ≡ own s v sel → c.mark ≡ Some j →
-      revoke_row T i s v sel ≡ cutting c.key (plain (waiter_added j v (parked_as v (RevokeWait j) s)))
-  revoke-marked c j held mark = revoke-held c held ∙ ap (λ m. cutting c.key (plain (revoke_begun T i v c.key m s))) mark
+      revoke_row T i s v sel ≡ cutting c.key (unshown (waiter_added j v (parked_as v (RevokeWait j) s)))
+  revoke-marked c j held mark = revoke-held c held ∙ ap (λ m. cutting c.key (unshown (revoke_begun T i v c.key m s))) mark
 
   -- which no job has marked
   pub revoke-open : (c : Capability) → Some c ≡ own s v sel → c.mark ≡ None →
-      revoke_row T i s v sel ≡ cutting c.key (plain (begin T i c.key None (v ∷ []) false (parked_as v (RevokeWait s.next_job) s)))
-  revoke-open c held mark = revoke-held c held ∙ ap (λ m. cutting c.key (plain (revoke_begun T i v c.key m s))) mark
+      revoke_row T i s v sel ≡ cutting c.key (unshown (begin T i c.key None (v ∷ []) false (parked_as v (RevokeWait s.next_job) s)))
+  revoke-open c held mark = revoke-held c held ∙ ap (λ m. cutting c.key (unshown (revoke_begun T i v c.key m s))) mark
 
   -- clear, where no test holds
   pub clear-done : (c : Capability) → None ≡ first_code (own_tests (own s v sel)) → Some c ≡ own s v sel →
-      clear_row T i s v sel ≡ cutting c.key (plain (clear_begun T i v c.key s))
+      clear_row T i s v sel ≡ cutting c.key (unshown (clear_begun T i v c.key s))
   clear-done c first held = unless-first (own_tests (own s v sel)) _ _ ∙ rw (← first, ← held) refl
 
 module _ (T : Setup) (i : ℕ) (s : Side) (from j : ℕ) (k : KeyName) where

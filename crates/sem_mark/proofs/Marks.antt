@@ -10,7 +10,7 @@ use Rattle.sem_key.specs.CapList.{cap_of, marked, with_mark}
 use Rattle.sem_key.specs.Region.{has_key, all_marked}
 use Rattle.sem_key.proofs.Members.{found}
 use Rattle.sem_key.proofs.KeyTests.{key_eq-true}
-use Rattle.sem_mark.specs.Walks.{is_open, children_at}
+use Rattle.sem_mark.specs.Walks.{is_unmarked_at, children_at}
 
 -- a search after a change that the test does not see
 pub find-map : {X : Type 0} (p : X → Bool) (f : X → X) → ((x : X) → p (f x) ≡ p x) → (xs : List X) → find p (map f xs) ≡ option_map f (find p xs)
@@ -76,7 +76,7 @@ module _ (cs : List Capability) (ks : List KeyName) (j : ℕ) where
   cap_of-marked k = find-map (λ c. key_eq c.key k) f (key-kept k) cs
 
   -- what is open is what was open and is not listed
-  pub is_open-marked : (k : KeyName) → is_open (all_marked ks j cs) k ≡ (is_open cs k && not (has_key ks k))
+  pub is_open-marked : (k : KeyName) → is_unmarked_at (all_marked ks j cs) k ≡ (is_unmarked_at cs k && not (has_key ks k))
   is_open-marked k = ap (λ o. option_map_or (λ c. is_none c.mark) o false) (cap_of-marked k) ∙ from (cap_of cs k) refl
     where
       from : (o : Option Capability) → cap_of cs k ≡ o → option_map_or (λ c. is_none c.mark) (option_map (λ c. mark_if (has_key ks c.key) j c) o) false

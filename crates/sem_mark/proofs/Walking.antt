@@ -17,7 +17,7 @@ use Rattle.sem_key.specs.Region.Reached.{at_root, by_link}
 use Rattle.sem_key.proofs.Members.{Contains-cons_cases, Contains-nil}
 use Rattle.sem_key.proofs.KeyTests.{key_eq-true, key_eq-same, has_key-from_Contains}
 use Rattle.sem_key.proofs.Regions.{region-exact}
-use Rattle.sem_mark.specs.Walks.{is_open, children_at, Walk, reach, IsWalk}
+use Rattle.sem_mark.specs.Walks.{is_unmarked_at, children_at, Walk, reach, IsWalk}
 use Rattle.sem_mark.proofs.SortedKeys.{AllPairs-append}
 use Rattle.sem_mark.proofs.LinkRooms.{children-few}
 use Rattle.sem_mark.proofs.Marks.{has_key-append, mark_if, cap_of-marked, is_open-marked, marked-more, none_marked, children-marked}
@@ -32,7 +32,7 @@ same_tests false true to from = from refl
 same_tests false false to from = refl
 
 -- an open child of what is reached is reached
-child_reached : (caps : List Capability) (root p k : KeyName) → Reached caps root p → has_key (children_at caps p) k ≡ true → is_open caps k ≡ true →
+child_reached : (caps : List Capability) (root p k : KeyName) → Reached caps root p → has_key (children_at caps p) k ≡ true → is_unmarked_at caps k ≡ true →
     Reached caps root k
 child_reached caps root p k reached child open' = from (cap_of caps p) refl child
   where
@@ -45,18 +45,18 @@ child_reached caps root p k reached child open' = from (cap_of caps p) refl chil
         from_k (Some d) held open' = by_link p k c d reached some child held (none_from d.mark open')
 
 pub children-reach : (j : ℕ) (k p : KeyName) (w : Walk) → children_at (reach j k w).caps p ≡ children_at w.caps p
-children-reach j k p w = elim (cases_Bool (is_open w.caps k)) [
-  | inl e ↦ ap (λ (x : Walk). children_at x.caps p) (cond-true (is_open w.caps k) _ w e) ∙ children-marked w.caps k p j
-  | inr e ↦ ap (λ (x : Walk). children_at x.caps p) (cond-false (is_open w.caps k) _ w e)
+children-reach j k p w = elim (cases_Bool (is_unmarked_at w.caps k)) [
+  | inl e ↦ ap (λ (x : Walk). children_at x.caps p) (cond-true (is_unmarked_at w.caps k) _ w e) ∙ children-marked w.caps k p j
+  | inr e ↦ ap (λ (x : Walk). children_at x.caps p) (cond-false (is_unmarked_at w.caps k) _ w e)
 ]
 
 -- Turns.
 
-pub reach-open : (j : ℕ) (k : KeyName) (w : Walk) → is_open w.caps k ≡ true → reach j k w ≡ record { caps = marked w.caps k j; keys = w.keys ++ k ∷ [] }
-reach-open j k w e = cond-true (is_open w.caps k) _ _ e
+pub reach-open : (j : ℕ) (k : KeyName) (w : Walk) → is_unmarked_at w.caps k ≡ true → reach j k w ≡ record { caps = marked w.caps k j; keys = w.keys ++ k ∷ [] }
+reach-open j k w e = cond-true (is_unmarked_at w.caps k) _ _ e
 
-pub reach-closed : (j : ℕ) (k : KeyName) (w : Walk) → is_open w.caps k ≡ false → reach j k w ≡ w
-reach-closed j k w e = cond-false (is_open w.caps k) _ _ e
+pub reach-closed : (j : ℕ) (k : KeyName) (w : Walk) → is_unmarked_at w.caps k ≡ false → reach j k w ≡ w
+reach-closed j k w e = cond-false (is_unmarked_at w.caps k) _ _ e
 
 one_key : (k q : KeyName) → has_key (k ∷ []) q ≡ true → q ≡ k
 one_key k q has = key_eq-true q k (drop_false (key_eq q k) has)
@@ -82,7 +82,7 @@ longer-take : (ks qs : List KeyName) → IsLonger ks qs → (n : ℕ) → n ≤ 
 longer-take ks qs (more, is) n few = rw is (take-append-le n ks more few)
 
 reach-longer : (j : ℕ) (k : KeyName) (w : Walk) → IsLonger w.keys (reach j k w).keys
-reach-longer j k w = elim (cases_Bool (is_open w.caps k)) [
+reach-longer j k w = elim (cases_Bool (is_unmarked_at w.caps k)) [
   | inl e ↦ (k ∷ [], ap (λ (x : Walk). x.keys) (reach-open j k w e))
   | inr e ↦ ([], ap (λ (x : Walk). x.keys) (reach-closed j k w e) ∙ sym (append-nil w.keys))
 ]
@@ -101,23 +101,23 @@ all-length j ks w = let longer = all-longer j ks w in omega (arith, ap length lo
 
 module _ (caps : List Capability) (root : KeyName) (j : ℕ) where
   -- what is open now was open, and is not listed
-  was_open : (w : Walk) (done : ℕ) (k : KeyName) → IsWalk caps root j w done → is_open w.caps k ≡ (is_open caps k && not (has_key w.keys k))
-  was_open w done k walk = ap (λ cs. is_open cs k) walk.marked ∙ is_open-marked caps w.keys j k
+  was_open : (w : Walk) (done : ℕ) (k : KeyName) → IsWalk caps root j w done → is_unmarked_at w.caps k ≡ (is_unmarked_at caps k && not (has_key w.keys k))
+  was_open w done k walk = ap (λ cs. is_unmarked_at cs k) walk.marked ∙ is_open-marked caps w.keys j k
 
   -- one more key is reached
-  pub IsWalk-reach : (w : Walk) (done : ℕ) (k : KeyName) → (is_open caps k ≡ true → Reached caps root k) → done ≤ length w.keys → IsWalk caps root j w done →
+  pub IsWalk-reach : (w : Walk) (done : ℕ) (k : KeyName) → (is_unmarked_at caps k ≡ true → Reached caps root k) → done ≤ length w.keys → IsWalk caps root j w done →
       IsWalk caps root j (reach j k w) done
-  IsWalk-reach w done k reachable early walk = elim (cases_Bool (is_open w.caps k)) [
+  IsWalk-reach w done k reachable early walk = elim (cases_Bool (is_unmarked_at w.caps k)) [
     | inr e ↦ rw (reach-closed j k w e) walk
     | inl e ↦ rw (reach-open j k w e) (record {
       marked = ap (λ cs. marked cs k j) walk.marked ∙ marked-more caps w.keys j k;
       reached = λ q has. elim (or_cases (has_key w.keys q) (has_key (k ∷ []) q) (sym (has_key-append w.keys (k ∷ []) q) ∙ has)) [
         | inl before ↦ walk.reached q before
         | inr here ↦ subst (Reached caps root) (sym (one_key k q here))
-            (reachable ((and_parts (is_open caps k) (not (has_key w.keys k)) (sym (was_open w done k walk) ∙ e)).0))
+            (reachable ((and_parts (is_unmarked_at caps k) (not (has_key w.keys k)) (sym (was_open w done k walk) ∙ e)).0))
       ];
       spread = AllPairs-append (λ a b. key_eq a b ≡ false) w.keys (k ∷ []) walk.spread (λ i j d lt within. absurd (omega arith))
-          (apart (not-true (has_key w.keys k) ((and_parts (is_open caps k) (not (has_key w.keys k)) (sym (was_open w done k walk) ∙ e)).1)));
+          (apart (not-true (has_key w.keys k) ((and_parts (is_unmarked_at caps k) (not (has_key w.keys k)) (sym (was_open w done k walk) ∙ e)).1)));
       rooted = λ open'. in_front w.keys (k ∷ []) root (walk.rooted open');
       closed = λ p q listed child open'. in_front w.keys (k ∷ []) q
           (walk.closed p q (rw (longer-take w.keys (w.keys ++ k ∷ []) (k ∷ [], refl) done early) at listed) child open');
@@ -137,18 +137,18 @@ module _ (caps : List Capability) (root : KeyName) (j : ℕ) where
           ]
 
   -- and is listed, if it was open
-  listed : (w : Walk) (done : ℕ) (k : KeyName) → IsWalk caps root j w done → is_open caps k ≡ true → has_key (reach j k w).keys k ≡ true
-  listed w done k walk open' = elim (cases_Bool (is_open w.caps k)) [
+  listed : (w : Walk) (done : ℕ) (k : KeyName) → IsWalk caps root j w done → is_unmarked_at caps k ≡ true → has_key (reach j k w).keys k ≡ true
+  listed w done k walk open' = elim (cases_Bool (is_unmarked_at w.caps k)) [
     | inl e ↦ rw (reach-open j k w e) (at_end w.keys k)
     | inr e ↦ rw (reach-closed j k w e)
         (true_from_ne_false (has_key w.keys k)
-        (λ absent. true≢false (sym (and_from (is_open caps k) (not (has_key w.keys k)) open' (not_from_false (has_key w.keys k) absent))
+        (λ absent. true≢false (sym (and_from (is_unmarked_at caps k) (not (has_key w.keys k)) open' (not_from_false (has_key w.keys k) absent))
         ∙ (sym (was_open w done k walk) ∙ e))))
   ]
 
   -- the walk at its beginning
   pub IsWalk-start : IsWalk caps root j (reach j root (record { caps = caps; keys = [] })) 0
-  IsWalk-start = elim (cases_Bool (is_open caps root)) [
+  IsWalk-start = elim (cases_Bool (is_unmarked_at caps root)) [
     | inl e ↦ rw (reach-open j root (record { caps = caps; keys = [] }) e) (record {
       marked = ap (λ cs. marked cs root j) (none_marked caps j) ∙ marked-more caps [] j root;
       reached = λ q has. subst (Reached caps root) (sym (one_key root q has)) (root_reached (cap_of caps root) refl e);
@@ -169,11 +169,11 @@ module _ (caps : List Capability) (root : KeyName) (j : ℕ) where
       root_reached None none open' = absurd (false≢true open')
       root_reached (Some c) some open' = at_root c some (none_from c.mark open')
 
-  all-reach : (w : Walk) (done : ℕ) (ks : List KeyName) → ((k : KeyName) → has_key ks k ≡ true → is_open caps k ≡ true → Reached caps root k) →
+  all-reach : (w : Walk) (done : ℕ) (ks : List KeyName) → ((k : KeyName) → has_key ks k ≡ true → is_unmarked_at caps k ≡ true → Reached caps root k) →
       done ≤ length w.keys → IsWalk caps root j w done → record {
         walk : IsWalk caps root j (in_turn (reach j) ks w) done;
         listed : (k : KeyName) →
-            has_key ks k ≡ true → is_open caps k ≡ true → has_key (in_turn (reach j) ks w).keys k ≡ true;
+            has_key ks k ≡ true → is_unmarked_at caps k ≡ true → has_key (in_turn (reach j) ks w).keys k ≡ true;
       }
   unfolding in_turn
   all-reach w done [] reachable early walk = record { walk = walk; listed = λ k none open'. absurd (false≢true none) }
@@ -272,7 +272,7 @@ module _ (caps : List Capability) (root : KeyName) (j : ℕ) where
 
       all : record {
         walk : IsWalk caps root j w' done;
-        listed : (k : KeyName) → has_key (children_at w.caps p) k ≡ true → is_open caps k ≡ true →
+        listed : (k : KeyName) → has_key (children_at w.caps p) k ≡ true → is_unmarked_at caps k ≡ true →
             has_key w'.keys k ≡ true;
       }
       all = all-reach w done (children_at w.caps p) (λ k child open'. child_reached caps root p k (walk.reached p listed_p) (rw same_children at child) open')

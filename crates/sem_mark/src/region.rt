@@ -6,7 +6,7 @@ ghost use Rattle.sem_key.specs.CapList.{link_count};
 ghost use Rattle.sem_key.specs.Lists.{in_turn};
 ghost use Rattle.sem_key.specs.Region.{has_key, region, children_of, all_marked};
 ghost use Rattle.sem_caps.specs.CapStore.{IsCapStore};
-ghost use Rattle.sem_mark.specs.Walks.{Walk, is_open as is_open_spec, children_at, open_count};
+ghost use Rattle.sem_mark.specs.Walks.{Walk, is_unmarked_at as is_open_spec, children_at, unmarked_count};
 ghost use Rattle.sem_mark.specs.Walks.{reach as reach_spec};
 
 use sem_caps::Caps;
@@ -62,13 +62,13 @@ fn walk_region(caps: &mut Caps, root: Key, job: u32, keys: &mut Vec<Key>, links:
 fn reach_children(caps: &mut Caps, parent: Key, job: u32, keys: &mut Vec<Key>, links: &mut Vec<Key>)
     requires link_room { vec_len links.old + length (children_at caps.old.caps parent)
         ≤ vec_capacity links.old }
-    requires room { vec_len keys.old + open_count caps.old.caps ≤ vec_capacity keys.old }
+    requires room { vec_len keys.old + unmarked_count caps.old.caps ≤ vec_capacity keys.old }
     ensures walk { (record { caps = caps.new.caps; keys = keys.new.items })
         ≡ in_turn (reach_spec job) (children_at caps.old.caps parent)
         (record { caps = caps.old.caps; keys = keys.old.items }) }
     ensures rest { caps.new ≡ record caps.old { caps = caps.new.caps } }
-    ensures room { vec_len keys.new + open_count caps.new.caps
-        ≤ vec_len keys.old + open_count caps.old.caps }
+    ensures room { vec_len keys.new + unmarked_count caps.new.caps
+        ≤ vec_len keys.old + unmarked_count caps.old.caps }
     ensures capacity { vec_capacity keys.new ≡ vec_capacity keys.old }
     ensures links { links.new.items ≡ links.old.items ++ children_at caps.old.caps parent }
     ensures valid { All IsValidKey links.old.items → All IsValidKey links.new.items }
@@ -83,13 +83,13 @@ fn reach_children(caps: &mut Caps, parent: Key, job: u32, keys: &mut Vec<Key>, l
 
 // Marks the capability of that key and lists it, if it is held without a mark.
 fn reach(caps: &mut Caps, key: Key, job: u32, keys: &mut Vec<Key>)
-    requires room { vec_len keys.old + open_count caps.old.caps ≤ vec_capacity keys.old }
+    requires room { vec_len keys.old + unmarked_count caps.old.caps ≤ vec_capacity keys.old }
     ensures store { IsCapStore caps.old }
     ensures walk { (record { caps = caps.new.caps; keys = keys.new.items })
         ≡ reach_spec job key (record { caps = caps.old.caps; keys = keys.old.items }) }
     ensures rest { caps.new ≡ record caps.old { caps = caps.new.caps } }
-    ensures room { vec_len keys.new + open_count caps.new.caps
-        ≤ vec_len keys.old + open_count caps.old.caps }
+    ensures room { vec_len keys.new + unmarked_count caps.new.caps
+        ≤ vec_len keys.old + unmarked_count caps.old.caps }
     ensures capacity { vec_capacity keys.new ≡ vec_capacity keys.old }
 {
     if is_open(caps, key) {

@@ -15,7 +15,7 @@ use Rattle.sem_key.specs.declared.limits.TheConstants.{ADDRESSES}
 use Rattle.sem_access.specs.declared.run.Run.{Run}
 use Rattle.sem_access.specs.LastWrites.{looked}
 use Rattle.sem_access.specs.Runs.{IsValidRun, AreRunsBehind, AreRuns, entry_at}
-use Rattle.sem_mem.specs.Chunks.{together, IsSized, AreChunks, beginning, beginnings_of, AreMetChunks}
+use Rattle.sem_mem.specs.Chunks.{together, IsSized, AreChunks, first_base, beginnings_of, AreMetChunks}
 use Rattle.sem_mem.proofs.KeptRuns.{each-run, first-run, first-apart, more-runs}
 use Rattle.sem_mem.proofs.Behind.{EndsBy, BeginsFrom, end_behind, end-from, ends-by, begin-behind, entry_behind, runs-before, runs-behind, some-runs}
 use Rattle.sem_mem.specs.Writing.{overwritten}
@@ -26,15 +26,15 @@ use Rattle.sem_mem.proofs.Meeting.{in-three, overwritten-within, looked-within}
 -- chunks behind an address: none begins before it, or before the one before it ends
 unfoldable Rise : ℕ → List (Vec Run) → Type 0
 Rise b [] = Unit {0}
-Rise b (c ∷ cs) = (b ≤ beginning c.items) × (beginning c.items ≤ end_behind 0 c.items) × Rise (end_behind 0 c.items) cs
+Rise b (c ∷ cs) = (b ≤ first_base c.items) × (first_base c.items ≤ end_behind 0 c.items) × Rise (end_behind 0 c.items) cs
 
 -- its runs begin from its beginning on, and end by its end
 abbrev IsChunk : Vec Run → Type 0
-IsChunk c = All (EndsBy (end_behind 0 c.items)) c.items × All (BeginsFrom (beginning c.items)) c.items
+IsChunk c = All (EndsBy (end_behind 0 c.items)) c.items × All (BeginsFrom (first_base c.items)) c.items
 
 -- what a chunk is, of its runs
 abbrev IsPart : ℕ → List Run → Type 0
-IsPart b rs = (b ≤ beginning rs) × (beginning rs ≤ end_behind 0 rs) × All (EndsBy (end_behind 0 rs)) rs × All (BeginsFrom (beginning rs)) rs
+IsPart b rs = (b ≤ first_base rs) × (first_base rs ≤ end_behind 0 rs) × All (EndsBy (end_behind 0 rs)) rs × All (BeginsFrom (first_base rs)) rs
     × (end_behind b rs ≡ end_behind 0 rs)
 
 part : (b : ℕ) (e : Option ℕ) (rs : List Run) → 1 ≤ length rs → AreRunsBehind b e rs → IsPart b rs
@@ -61,7 +61,7 @@ rise b e (c ∷ cs) sized are =
     let rest = rise (end_behind 0 c.items) (entry_behind e c.items) cs (All-tail IsSized c cs sized) behind in
     ((is.0, is.1, rest.0), All-cons IsChunk c cs (is.2, is.3) rest.1)
 
-first-begins : (b : ℕ) (c : Vec Run) (cs : List (Vec Run)) → Rise b (c ∷ cs) → (b ≤ beginning c.items) × (beginning c.items ≤ end_behind 0 c.items)
+first-begins : (b : ℕ) (c : Vec Run) (cs : List (Vec Run)) → Rise b (c ∷ cs) → (b ≤ first_base c.items) × (first_base c.items ≤ end_behind 0 c.items)
 unfolding Rise
 first-begins b c cs up = (up.0, up.1)
 
@@ -69,8 +69,8 @@ more-chunks : (b : ℕ) (c : Vec Run) (cs : List (Vec Run)) → Rise b (c ∷ cs
 unfolding Rise
 more-chunks b c cs up = up.2
 
-begins-at : (b : ℕ) (cs : List (Vec Run)) → Rise b cs → (k : ℕ) (d : Vec Run) → k < length cs → (b ≤ beginning (get_or cs k d).items)
-    × (beginning (get_or cs k d).items ≤ end_behind 0 (get_or cs k d).items)
+begins-at : (b : ℕ) (cs : List (Vec Run)) → Rise b cs → (k : ℕ) (d : Vec Run) → k < length cs → (b ≤ first_base (get_or cs k d).items)
+    × (first_base (get_or cs k d).items ≤ end_behind 0 (get_or cs k d).items)
 begins-at b [] up k d within = absurd (omega (arith, within))
 begins-at b (c ∷ cs) up zero d within = first-begins b c cs up
 begins-at b (c ∷ cs) up (suc k) d within =
@@ -79,7 +79,7 @@ begins-at b (c ∷ cs) up (suc k) d within =
     (omega (arith, first.0, first.1, later.0), later.1)
 
 rises : (b : ℕ) (cs : List (Vec Run)) → Rise b cs → (i j : ℕ) (d : Vec Run) → i ≤ j → j < length cs →
-    beginning (get_or cs i d).items ≤ beginning (get_or cs j d).items
+    first_base (get_or cs i d).items ≤ first_base (get_or cs j d).items
 rises b [] up i j d le within = absurd (omega (arith, within))
 rises b (c ∷ cs) up zero zero d le within = omega arith
 rises b (c ∷ cs) up zero (suc j) d le within =
@@ -91,7 +91,7 @@ rises b (c ∷ cs) up (suc i) (suc j) d le within = rises (end_behind 0 c.items)
 
 -- a chunk ends before the next one begins
 ends-by-next : (b : ℕ) (cs : List (Vec Run)) → Rise b cs → (i : ℕ) (d : Vec Run) → suc i < length cs →
-    end_behind 0 (get_or cs i d).items ≤ beginning (get_or cs (suc i) d).items
+    end_behind 0 (get_or cs i d).items ≤ first_base (get_or cs (suc i) d).items
 ends-by-next b [] up i d within = absurd (omega (arith, within))
 ends-by-next b (c ∷ cs) up zero d within = (begins-at (end_behind 0 c.items) cs (more-chunks b c cs up) zero d (omega (arith, within))).0
 ends-by-next b (c ∷ cs) up (suc i) d within = ends-by-next (end_behind 0 c.items) cs (more-chunks b c cs up) i d (omega (arith, within))
@@ -108,17 +108,17 @@ module _ (cs : List (Vec Run)) (are : AreChunks cs) where
   up : Rise 0 cs × All IsChunk cs
   up = rise 0 None cs are.sized are.runs
 
-  pub beginnings-rise : (n : ℕ) → IsNonDecreasingBy (λ (c : Vec Run). beginning c.items) (drop n cs)
+  pub beginnings-rise : (n : ℕ) → IsNonDecreasingBy (λ (c : Vec Run). first_base c.items) (drop n cs)
   beginnings-rise n i j d le within =
       let size : length (drop n cs) ≡ length cs - n = length-drop n cs in
       let at : (k : ℕ) → k < length (drop n cs) → get_or (drop n cs) k d ≡ get_or cs (n + k) d = λ k lt. get_or-drop n cs k d in
-      subst (λ (c : Vec Run). beginning c.items ≤ beginning (get_or (drop n cs) j d).items) (sym (at i (omega (arith, le, within))))
-      (subst (λ (c : Vec Run). beginning (get_or cs (n + i) d).items ≤ beginning c.items) (sym (at j within))
+      subst (λ (c : Vec Run). first_base c.items ≤ first_base (get_or (drop n cs) j d).items) (sym (at i (omega (arith, le, within))))
+      (subst (λ (c : Vec Run). first_base (get_or cs (n + i) d).items ≤ first_base c.items) (sym (at j within))
       (rises 0 cs up.0 (n + i) (n + j) d (omega (arith, le)) (omega (arith, within, size))))
 
   module _ (base end i k : ℕ) (within : i ≤ length cs) (short : k ≤ length (drop i cs))
-      (first : IsPartitionPoint (λ (c : Vec Run). nat_lt (beginning c.items) base ≡ true) (λ (c : Vec Run). nat_lt (beginning c.items) base ≡ false) cs i)
-      (second : IsPartitionPoint (λ (c : Vec Run). nat_lt (beginning c.items) end ≡ true) (λ (c : Vec Run). nat_lt (beginning c.items) end ≡ false)
+      (first : IsPartitionPoint (λ (c : Vec Run). nat_lt (first_base c.items) base ≡ true) (λ (c : Vec Run). nat_lt (first_base c.items) base ≡ false) cs i)
+      (second : IsPartitionPoint (λ (c : Vec Run). nat_lt (first_base c.items) end ≡ true) (λ (c : Vec Run). nat_lt (first_base c.items) end ≡ false)
       (drop i cs) k)
       (nowhere : Vec Run) where
     is-chunk : (m : ℕ) → m < length cs → IsChunk (get_or cs m nowhere)
@@ -138,12 +138,12 @@ module _ (cs : List (Vec Run)) (are : AreChunks cs) where
         let size : length (drop i cs) ≡ length cs - i = length-drop i cs in
         let place : i + (m - i) ≡ m = omega (arith, from) in
         let same : get_or (drop i cs) (m - i) nowhere ≡ get_or cs m nowhere = get_or-drop i cs (m - i) nowhere ∙ ap (λ n. get_or cs n nowhere) place in
-        let tested : nat_lt (beginning (get_or cs m nowhere).items) end ≡ false =
-        subst (λ (c : Vec Run). nat_lt (beginning c.items) end ≡ false) same
+        let tested : nat_lt (first_base (get_or cs m nowhere).items) end ≡ false =
+        subst (λ (c : Vec Run). nat_lt (first_base c.items) end ≡ false) same
         (second.1 (m - i) nowhere (omega (arith, from)) (omega (arith, lt, size, from))) in
-        let end-le : end ≤ beginning (get_or cs m nowhere).items = ltb-false _ end tested in
-        let later : (r : Run) → BeginsFrom (beginning (get_or cs m nowhere).items) r → BeginsFrom end r = λ r begins. omega (arith, begins, end-le) in
-        All-weaker (BeginsFrom (beginning (get_or cs m nowhere).items)) (BeginsFrom end) later (get_or cs m nowhere).items (is-chunk m lt).1
+        let end-le : end ≤ first_base (get_or cs m nowhere).items = ltb-false _ end tested in
+        let later : (r : Run) → BeginsFrom (first_base (get_or cs m nowhere).items) r → BeginsFrom end r = λ r begins. omega (arith, begins, end-le) in
+        All-weaker (BeginsFrom (first_base (get_or cs m nowhere).items)) (BeginsFrom end) later (get_or cs m nowhere).items (is-chunk m lt).1
 
     all-before : (n : ℕ) → n ≤ i - 1 → All (EndsBy base) (together (take n cs))
     all-before n le =
@@ -178,8 +178,8 @@ none-met base end a b order few = record {
 
 -- what is found, or more
 pub met : (cs : List (Vec Run)) → AreChunks cs → (base end i k : ℕ) → i ≤ length cs → k ≤ length (drop i cs)
-    → IsPartitionPoint (λ (c : Vec Run). nat_lt (beginning c.items) base ≡ true) (λ (c : Vec Run). nat_lt (beginning c.items) base ≡ false) cs i
-    → IsPartitionPoint (λ (c : Vec Run). nat_lt (beginning c.items) end ≡ true) (λ (c : Vec Run). nat_lt (beginning c.items) end ≡ false) (drop i cs) k
+    → IsPartitionPoint (λ (c : Vec Run). nat_lt (first_base c.items) base ≡ true) (λ (c : Vec Run). nat_lt (first_base c.items) base ≡ false) cs i
+    → IsPartitionPoint (λ (c : Vec Run). nat_lt (first_base c.items) end ≡ true) (λ (c : Vec Run). nat_lt (first_base c.items) end ≡ false) (drop i cs) k
     → (a b : ℕ) → a ≤ i - 1 → i + k ≤ b → b ≤ length cs → AreMetChunks cs base end a b
 met [] are base end i k within short first second a b low high few = none-met base end a b (omega (arith, low, high)) few
 met (c ∷ cs) are base end i k within short first second a b low high few = found-or-more (c ∷ cs) are base end i k within short first second c a b low high few
@@ -195,7 +195,7 @@ numbers-rise n (x ∷ xs) up i j d le within =
     omega (arith, one, other, rises)
 
 abbrev begin_of : Vec Run → ℕ
-begin_of c = beginning c.items
+begin_of c = first_base c.items
 
 -- the places where chunks begin rise
 pub begins-rise : (cs : List (Vec Run)) → AreChunks cs → (bs : List ℕ) → bs ≡ beginnings_of cs → (n : ℕ) → IsNonDecreasingBy (λ (b : ℕ). b) (drop n bs)
@@ -203,14 +203,14 @@ begins-rise cs are bs same n = subst (λ (ns : List ℕ). IsNonDecreasingBy (λ 
     (numbers-rise begin_of (drop n cs) (beginnings-rise cs are n))
 
 -- and lie within memory
-first-within : (b : ℕ) (e : Option ℕ) (rs : List Run) → 1 ≤ length rs → AreRunsBehind b e rs → beginning rs ≤ ADDRESSES
+first-within : (b : ℕ) (e : Option ℕ) (rs : List Run) → 1 ≤ length rs → AreRunsBehind b e rs → first_base rs ≤ ADDRESSES
 first-within b e [] some are = absurd (omega (arith, some))
 first-within b e (r ∷ rs) some are = let is = first-run b e r rs are in omega (arith, is.1)
 
 begins-in : (b : ℕ) (e : Option ℕ) (cs : List (Vec Run)) → All IsSized cs → AreRunsBehind b e (together cs) → All (λ n. n ≤ ADDRESSES) (beginnings_of cs)
 begins-in b e [] sized are = All-nil (λ n. n ≤ ADDRESSES)
 begins-in b e (c ∷ cs) sized are =
-    All-cons (λ n. n ≤ ADDRESSES) (beginning c.items) (beginnings_of cs)
+    All-cons (λ n. n ≤ ADDRESSES) (first_base c.items) (beginnings_of cs)
     (first-within b e c.items (All-head IsSized c cs sized).0 (runs-before b e c.items (together cs) are))
     (begins-in (end_behind b c.items) (entry_behind e c.items) cs (All-tail IsSized c cs sized) (runs-behind b e c.items (together cs) are))
 
@@ -219,11 +219,11 @@ begins-within cs are bs same = subst (λ (ns : List ℕ). All (λ n. n ≤ ADDRE
 
 -- where the places are parted, so are the chunks
 parted-chunks : (P Q : ℕ → Type 0) (cs : List (Vec Run)) (i : ℕ) → i ≤ length cs → IsPartitionPoint P Q (map begin_of cs) i →
-    IsPartitionPoint (λ (c : Vec Run). P (beginning c.items)) (λ (c : Vec Run). Q (beginning c.items)) cs i
+    IsPartitionPoint (λ (c : Vec Run). P (first_base c.items)) (λ (c : Vec Run). Q (first_base c.items)) cs i
 parted-chunks P Q cs i le point = (
-  λ m d low below. subst P (get_or-map begin_of cs m d (beginning d.items) (omega (arith, below, le))) (point.0 m (beginning d.items) low below),
-  λ m d from within. subst Q (get_or-map begin_of cs m d (beginning d.items) within)
-      (point.1 m (beginning d.items) from (subst (λ n. m < n) (sym (length-map cs begin_of)) within)),
+  λ m d low below. subst P (get_or-map begin_of cs m d (first_base d.items) (omega (arith, below, le))) (point.0 m (first_base d.items) low below),
+  λ m d from within. subst Q (get_or-map begin_of cs m d (first_base d.items) within)
+      (point.1 m (first_base d.items) from (subst (λ n. m < n) (sym (length-map cs begin_of)) within)),
 )
 
 met-from : (cs : List (Vec Run)) → AreChunks cs → (base end i k : ℕ) → i ≤ length (beginnings_of cs) → k ≤ length (drop i (beginnings_of cs))
@@ -366,17 +366,17 @@ each-put cs ds i j sized more =
 
 -- where they begin then
 pub begins-set : (cs : List (Vec Run)) (bs : List ℕ) (i : ℕ) (c : Vec Run) → bs ≡ beginnings_of cs →
-    slice_set bs i (beginning c.items) ≡ beginnings_of (slice_set cs i c)
-begins-set cs bs i c same = ap (λ (ns : List ℕ). slice_set ns i (beginning c.items)) same ∙ sym (map-set begin_of cs i c)
+    slice_set bs i (first_base c.items) ≡ beginnings_of (slice_set cs i c)
+begins-set cs bs i c same = ap (λ (ns : List ℕ). slice_set ns i (first_base c.items)) same ∙ sym (map-set begin_of cs i c)
 
 pub begins-split : (cs : List (Vec Run)) (bs : List ℕ) (i : ℕ) (c d : Vec Run) → bs ≡ beginnings_of cs →
-    slice_set (insert bs (i + 1) (beginning d.items)) i (beginning c.items) ≡ beginnings_of (slice_set (insert cs (i + 1) d) i c)
+    slice_set (insert bs (i + 1) (first_base d.items)) i (first_base c.items) ≡ beginnings_of (slice_set (insert cs (i + 1) d) i c)
 begins-split cs bs i c d same =
     let first : take (i + 1) bs ≡ map begin_of (take (i + 1) cs) = ap (take (i + 1)) same ∙ take-map begin_of (i + 1) cs in
     let last : drop (i + 1) bs ≡ map begin_of (drop (i + 1) cs) = ap (drop (i + 1)) same ∙ drop-map begin_of (i + 1) cs in
-    begins-set (insert cs (i + 1) d) (insert bs (i + 1) (beginning d.items)) i c
-    (ap (λ (ns : List ℕ). ns ++ beginning d.items ∷ drop (i + 1) bs) first
-    ∙ (ap (λ (ns : List ℕ). map begin_of (take (i + 1) cs) ++ beginning d.items ∷ ns) last
+    begins-set (insert cs (i + 1) d) (insert bs (i + 1) (first_base d.items)) i c
+    (ap (λ (ns : List ℕ). ns ++ first_base d.items ∷ drop (i + 1) bs) first
+    ∙ (ap (λ (ns : List ℕ). map begin_of (take (i + 1) cs) ++ first_base d.items ∷ ns) last
     ∙ sym (map-append begin_of (take (i + 1) cs) (d ∷ drop (i + 1) cs))))
 
 pub begins-put : (cs ds : List (Vec Run)) (bs : List ℕ) (i j : ℕ) → bs ≡ beginnings_of cs →

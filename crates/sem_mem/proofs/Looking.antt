@@ -9,7 +9,7 @@ use Rattle.std.proofs.Math.Nat.{max_comm}
 use Rattle.std.proofs.Math.Seq.{drop-cons}
 use Rattle.sem_access.specs.declared.run.Run.{Run}
 use Rattle.sem_access.specs.declared.look.Look.{Look}
-use Rattle.sem_access.specs.LastWrites.{has_address, greater, greatest, looked}
+use Rattle.sem_access.specs.LastWrites.{has_address, greater_with, greatest, looked}
 use Rattle.sem_access.specs.Runs.{AreRuns, entry_at}
 use Rattle.sem_mem.specs.Writing.{shared, with_run, greater_of, both}
 use Rattle.sem_mem.proofs.Behind.{one-silent}
@@ -17,11 +17,11 @@ use Rattle.sem_mem.proofs.KeptRuns.{has-address, address-in, entry-here, entry-l
 
 -- The greatest of entries.
 
-greater-again : (e : ℕ) (o : Option ℕ) → greater e (greater e o) ≡ greater e o
+greater-again : (e : ℕ) (o : Option ℕ) → greater_with e (greater_with e o) ≡ greater_with e o
 greater-again e None = let same : max e e ≡ e = omega arith in ap Some same
 greater-again e (Some n) = let same : max e (max e n) ≡ max e n = omega arith in ap Some same
 
-greater-swap : (m e : ℕ) (o : Option ℕ) → greater m (greater e o) ≡ greater e (greater m o)
+greater-swap : (m e : ℕ) (o : Option ℕ) → greater_with m (greater_with e o) ≡ greater_with e (greater_with m o)
 greater-swap m e None = ap Some (max_comm m e)
 greater-swap m e (Some n) = let same : max m (max e n) ≡ max e (max m n) = omega arith in ap Some same
 
@@ -65,18 +65,18 @@ module _ (p : ℕ → Bool) (e : ℕ) (f g : ℕ → Option ℕ) (new : (a : ℕ
   -- the greatest, where some pass and where none does
   abbrev Newest : List ℕ → Type 0
   Newest xs = (many p xs ≡ 0 → greatest (filter_map f xs) ≡ greatest (filter_map g xs))
-      × (1 ≤ many p xs → greatest (filter_map f xs) ≡ greater e (greatest (filter_map g xs)))
+      × (1 ≤ many p xs → greatest (filter_map f xs) ≡ greater_with e (greatest (filter_map g xs)))
 
   newest-found : (xs : List ℕ) → Newest xs
   newest-found [] = (λ none. refl, λ some. absurd (omega (arith, some)))
   newest-found (x ∷ xs) = elim (cases_Bool (p x)) [
     | inl passes ↦
         let count : one_if (p x) ≡ 1 = cond-true (p x) 1 0 passes in
-        let one : greatest (cons_option (f x) (filter_map f xs)) ≡ greater e (greatest (filter_map f xs)) =
+        let one : greatest (cons_option (f x) (filter_map f xs)) ≡ greater_with e (greatest (filter_map f xs)) =
         ap (λ o. greatest (cons_option o (filter_map f xs))) (new x passes) in
         let none : greatest (cons_option (g x) (filter_map g xs)) ≡ greatest (filter_map g xs) =
         ap (λ o. greatest (cons_option o (filter_map g xs))) (free x passes) in
-        (λ zero. absurd (omega (arith, zero, count)), λ some. one ∙ (passed (newest-found xs) ∙ ap (greater e) (sym none)))
+        (λ zero. absurd (omega (arith, zero, count)), λ some. one ∙ (passed (newest-found xs) ∙ ap (greater_with e) (sym none)))
     | inr fails ↦
         let count : one_if (p x) ≡ 0 = cond-false (p x) 1 0 fails in
         let same : greatest (cons_option (f x) (filter_map f xs)) ≡ greatest (cons_option (g x) (filter_map f xs)) =
@@ -85,16 +85,16 @@ module _ (p : ℕ → Bool) (e : ℕ) (f g : ℕ → Option ℕ) (new : (a : ℕ
         (λ zero. same ∙ rest.0 (omega (arith, zero, count)), λ some. same ∙ rest.1 (omega (arith, some, count)))
   ]
     where
-      passed : Newest xs → greater e (greatest (filter_map f xs)) ≡ greater e (greatest (filter_map g xs))
+      passed : Newest xs → greater_with e (greatest (filter_map f xs)) ≡ greater_with e (greatest (filter_map g xs))
       passed rest = elim (cases_eq (many p xs) 0) [
-        | inl none ↦ ap (greater e) (rest.0 none)
-        | inr some ↦ ap (greater e) (rest.1 (omega (arith, some))) ∙ greater-again e (greatest (filter_map g xs))
+        | inl none ↦ ap (greater_with e) (rest.0 none)
+        | inr some ↦ ap (greater_with e) (rest.1 (omega (arith, some))) ∙ greater-again e (greatest (filter_map g xs))
       ]
 
       failed : (o : Option ℕ) → Newest xs → (many p xs ≡ 0 → greatest (cons_option o (filter_map f xs)) ≡ greatest (cons_option o (filter_map g xs)))
-          × (1 ≤ many p xs → greatest (cons_option o (filter_map f xs)) ≡ greater e (greatest (cons_option o (filter_map g xs))))
+          × (1 ≤ many p xs → greatest (cons_option o (filter_map f xs)) ≡ greater_with e (greatest (cons_option o (filter_map g xs))))
       failed None rest = rest
-      failed (Some m) rest = (λ none. ap (greater m) (rest.0 none), λ some. ap (greater m) (rest.1 some) ∙ greater-swap m e (greatest (filter_map g xs)))
+      failed (Some m) rest = (λ none. ap (greater_with m) (rest.0 none), λ some. ap (greater_with m) (rest.1 some) ∙ greater-swap m e (greatest (filter_map g xs)))
 
 -- how many addresses of a range another range has
 range-shares : (b l n base : ℕ) → many (has_address b l) (range_with_len base n) ≡ min (base + n) (b + l) - max b base
@@ -140,7 +140,7 @@ looked-more f g r from end le new old free =
           ∙ sym (cond-true (shared from end r == 0) _ _ (eq-eqb (shared from end r) 0 none))
       | inr some ↦
           found-is (length (filter_map f R)) (length (filter_map g R) + shared from end r) (greatest (filter_map f R))
-          (greater r.entry (greatest (filter_map g R))) written (newest.1 (omega (arith, counted, some)))
+          (greater_with r.entry (greatest (filter_map g R))) written (newest.1 (omega (arith, counted, some)))
           ∙ sym (cond-false (shared from end r == 0) _ _ (ne_eqb (shared from end r) 0 some))
     ]
   where
@@ -214,12 +214,12 @@ module _ (runs : List Run) (i : ℕ) (d : Run) (base len : ℕ) (are : AreRuns r
 
 -- What is found by some runs and by others.
 
-greater-both : (m : ℕ) (p q : Option ℕ) → greater m (greater_of p q) ≡ greater_of (greater m p) q
+greater-both : (m : ℕ) (p q : Option ℕ) → greater_with m (greater_of p q) ≡ greater_of (greater_with m p) q
 greater-both m None q = refl
 greater-both m (Some e) None = refl
 greater-both m (Some e) (Some n) = let same : max m (max e n) ≡ max (max m e) n = omega arith in ap Some same
 
-greater-other : (m : ℕ) (p q : Option ℕ) → greater m (greater_of p q) ≡ greater_of p (greater m q)
+greater-other : (m : ℕ) (p q : Option ℕ) → greater_with m (greater_of p q) ≡ greater_of p (greater_with m q)
 greater-other m None q = refl
 greater-other m (Some e) q = greater-swap m e q
 
@@ -230,11 +230,11 @@ module _ (f g h : ℕ → Option ℕ) (parts : (a : ℕ) → ((g a ≡ None) × 
 
   right-more : (o : Option ℕ) (xs ys zs : List ℕ) → Joined xs ys zs → Joined (cons_option o xs) ys (cons_option o zs)
   right-more None xs ys zs is = is
-  right-more (Some m) xs ys zs is = let count = is.0 in (omega (arith, count), ap (greater m) is.1 ∙ greater-other m (greatest ys) (greatest zs))
+  right-more (Some m) xs ys zs is = let count = is.0 in (omega (arith, count), ap (greater_with m) is.1 ∙ greater-other m (greatest ys) (greatest zs))
 
   left-more : (o : Option ℕ) (xs ys zs : List ℕ) → Joined xs ys zs → Joined (cons_option o xs) (cons_option o ys) zs
   left-more None xs ys zs is = is
-  left-more (Some m) xs ys zs is = let count = is.0 in (omega (arith, count), ap (greater m) is.1 ∙ greater-both m (greatest ys) (greatest zs))
+  left-more (Some m) xs ys zs is = let count = is.0 in (omega (arith, count), ap (greater_with m) is.1 ∙ greater-both m (greatest ys) (greatest zs))
 
   joined-found : (xs : List ℕ) → Joined (filter_map f xs) (filter_map g xs) (filter_map h xs)
   joined-found [] = (refl, refl)

@@ -12,7 +12,7 @@ use Rattle.sem_text.specs.Lines.{line, text}
 use Rattle.sem_access.specs.declared.access.Access.{Access}
 use Rattle.sem_access.specs.declared.run.Run.{Run}
 use Rattle.sem_access.specs.declared.look.Look.{Look}
-use Rattle.sem_access.specs.LastWrites.{is_write_at, is_write_before, greater, greatest, greatest_entry, last_write_in, looked}
+use Rattle.sem_access.specs.LastWrites.{is_write_at, is_write_before, greater_with, greatest, greatest_entry, last_write_in, looked}
 use Rattle.sem_access.specs.Runs.{AreRuns, all_runs, entry_at}
 use Rattle.sem_access.specs.ContentsText.{read_line, run_line, reads, found_by, access_lines}
 use Rattle.sem_mem.specs.Reading.{AreInOrder, AreBefore}
@@ -46,7 +46,7 @@ greatest-push [] n less = refl
 greatest-push (m ∷ ns) n less =
     let below = All-head (λ (k : ℕ). k < n) m ns less in
     let most : max m n ≡ n = omega (arith, below) in
-    ap (greater m) (greatest-push ns n (All-tail (λ (k : ℕ). k < n) m ns less)) ∙ ap Some most
+    ap (greater_with m) (greatest-push ns n (All-tail (λ (k : ℕ). k < n) m ns less)) ∙ ap Some most
 
 older-entries : (n : ℕ) (test : Access → Bool) (xs : List Access) → AreBefore n xs → All (λ m. m < n) (map (λ (x : Access). x.entry) (filter test xs))
 older-entries n test xs before = All-map (λ m. m < n) (λ (x : Access). x.entry) (filter test xs) (All-filter test (λ (x : Access). x.entry < n) xs before)

@@ -12,12 +12,12 @@ abbrev pub together : List (Vec Run) → List Run
 together cs = flat_map (λ c. c.items) cs
 
 -- a chunk has a run
-abbrev pub HasRun : Vec Run → Type 0
-HasRun c = 1 ≤ length c.items
+abbrev pub HasAnyRun : Vec Run → Type 0
+HasAnyRun c = 1 ≤ length c.items
 
 -- a chunk has a run, and not too many
 abbrev pub IsSized : Vec Run → Type 0
-IsSized c = HasRun c × (length c.items ≤ CHUNK)
+IsSized c = HasAnyRun c × (length c.items ≤ CHUNK)
 
 -- each chunk has a run and not too many, and together they are runs
 pub record AreChunks (cs : List (Vec Run)) : Type 0 where
@@ -25,13 +25,13 @@ pub record AreChunks (cs : List (Vec Run)) : Type 0 where
   pub runs : AreRuns (together cs)
 
 -- where the first of some runs begins
-abbrev pub beginning : List Run → ℕ
-beginning [] = 0
-beginning (r ∷ rs) = r.base
+abbrev pub first_base : List Run → ℕ
+first_base [] = 0
+first_base (r ∷ rs) = r.base
 
 -- where each chunk begins
 abbrev pub beginnings_of : List (Vec Run) → List ℕ
-beginnings_of cs = map (λ c. beginning c.items) cs
+beginnings_of cs = map (λ c. first_base c.items) cs
 
 -- chunks, and where each of them begins
 pub record AreIndexed (cs : List (Vec Run)) (beginnings : List ℕ) : Type 0 where

@@ -4,7 +4,7 @@ use Rattle.std.specs.Prelude.{ℕ, ◌+◌, ◌-◌, ◌==◌, min, max, nat_lt,
 use Rattle.std.specs.Prelude.{if◌then◌else◌}
 use Rattle.sem_access.specs.declared.run.Run.{Run}
 use Rattle.sem_access.specs.declared.look.Look.{Look}
-use Rattle.sem_access.specs.LastWrites.{greater}
+use Rattle.sem_access.specs.LastWrites.{greater_with}
 use Rattle.sem_access.specs.Runs.{run_of}
 
 -- the part of a run that lies below an address
@@ -39,13 +39,13 @@ with_run from end found r =
     then found
     else record {
       written = found.written + shared from end r;
-      newest = greater r.entry found.newest;
+      newest = greater_with r.entry found.newest;
     }
 
 -- the greater of two optional numbers
 abbrev pub greater_of : Option ℕ → Option ℕ → Option ℕ
 greater_of None other = other
-greater_of (Some n) other = greater n other
+greater_of (Some n) other = greater_with n other
 
 -- what some runs tell, and what others tell that share no address with them
 abbrev pub both : Look → Look → Look

@@ -5,7 +5,7 @@ ghost use Rattle.std.specs.List.Sorted.{IsPartitionedBy, IsPartitionPoint};
 ghost use Rattle.std.specs.Global.{Vec as VecData};
 ghost use Rattle.sem_key.specs.declared.limits.TheConstants.{ADDRESSES};
 ghost use Rattle.sem_access.specs.declared.run.Run.{Run as RunData};
-ghost use Rattle.sem_mem.specs.Chunks.{AreChunks, AreMetChunks, beginning, beginnings_of};
+ghost use Rattle.sem_mem.specs.Chunks.{AreChunks, AreMetChunks, first_base, beginnings_of};
 
 use crate::steps::step_below;
 use sem_access::Run;
@@ -59,7 +59,7 @@ fn count_before(beginnings: &[u64], address: u64) -> usize
 
 /// Where the runs begin.
 pub fn beginning_of(runs: &[Run]) -> u64
-    ensures { result ≡ beginning runs.now }
+    ensures { result ≡ first_base runs.now }
 {
     match runs.first() {
         Some(run) => run.base,

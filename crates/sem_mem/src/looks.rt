@@ -1,7 +1,7 @@
 // What runs tell of a range of addresses.
 ghost use Rattle.std.specs.Prelude.{◌≡◌, ◌+◌, ◌≤◌, ℕ, Option};
 ghost use Rattle.sem_key.specs.declared.limits.TheConstants.{ADDRESSES};
-ghost use Rattle.sem_access.specs.LastWrites.{greater as greater_spec, looked};
+ghost use Rattle.sem_access.specs.LastWrites.{greater_with as greater_spec, looked};
 ghost use Rattle.sem_access.specs.Runs.{IsValidRun, AreRuns, entry_at};
 ghost use Rattle.sem_mem.specs.Writing.{shared as shared_spec, with_run as with_run_spec};
 ghost use Rattle.sem_mem.specs.Writing.{both as both_spec};

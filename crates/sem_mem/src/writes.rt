@@ -5,7 +5,7 @@ ghost use Rattle.sem_key.specs.declared.limits.TheConstants.{ADDRESSES};
 ghost use Rattle.sem_mem.specs.declared.chunks.TheConstants.{CHUNK as CHUNK_SPEC};
 ghost use Rattle.sem_mem.specs.declared.writes.TheConstants.{CUT as CUT_SPEC};
 ghost use Rattle.sem_mem.specs.Writing.{overwritten as overwritten_spec};
-ghost use Rattle.sem_mem.specs.Chunks.{together, AreChunks, AreIndexed, HasRun, IsSized};
+ghost use Rattle.sem_mem.specs.Chunks.{together, AreChunks, AreIndexed, HasAnyRun, IsSized};
 ghost use Rattle.sem_mem.specs.Chunks.{beginnings_of};
 
 use crate::chunks::{CHUNK, beginning_of, chunks_met};
@@ -81,7 +81,7 @@ fn replace(
     requires within { to ≤ length chunks.old.items }
     requires each { All IsSized chunks.old.items }
     requires begin { beginnings.old.items ≡ beginnings_of chunks.old.items }
-    requires some { HasRun runs.old }
+    requires some { HasAnyRun runs.old }
     ensures ok { OnOk result (together chunks.new.items
         ≡ together (take from chunks.old.items)
         ++ (runs.old.items ++ together (drop to chunks.old.items))) }
@@ -184,7 +184,7 @@ fn beginnings_of_chunks(alloc: Global, chunks: &[Vec<Run>]) -> Result<Vec<u64>, 
 }
 
 fn in_chunks(alloc: Global, mut runs: Vec<Run>) -> Result<Vec<Vec<Run>>, OutOfMemory>
-    requires { HasRun runs }
+    requires { HasAnyRun runs }
     ensures together { IfOk result (λ v. together v.items ≡ runs.items) }
     ensures sized { IfOk result (λ v. All IsSized v.items) }
 {

@@ -10,8 +10,8 @@ use Rattle.sem_msg.specs.declared.message.Message.TheVariants.{RevokeDone, Unlin
 use Rattle.sem_msg.specs.Setup.{Setup, IsSetup}
 use Rattle.sem_machine.specs.Schedules.{IsSchedule, world_after}
 use Rattle.sem_machine.specs.Living.{IsIdle}
-use Rattle.sem_safety.specs.Counts.{one_if}
-use Rattle.sem_messages.specs.Messages.{sent, is_obtain_req, is_obtain_ok, is_obtain_no, is_delegate_req, is_prepared}
+use Rattle.sem_safety.specs.Counts.{count_if}
+use Rattle.sem_messages.specs.Messages.{all_sent, is_obtain_req, is_obtain_ok, is_obtain_no, is_delegate_req, is_prepared}
 use Rattle.sem_messages.specs.Messages.{is_delegate_no, is_ack, is_ack_yes, is_orphan, is_revoke_req, is_revoke_done}
 use Rattle.sem_messages.specs.Messages.{is_unlink, count_sent, grants_across, IsAnswered}
 use Rattle.sem_messages.proofs.Counting.{either, nothing, sum-both, sum-zero, settled-count, settled-sent}
@@ -23,12 +23,12 @@ use Rattle.sem_messages.proofs.Families.{obtains-balanced, delegates-balanced, a
 
 abbrev kinds_of : Message → ℕ
 kinds_of m =
-    one_if is_obtain_req m + (one_if is_obtain_ok m + (
-    one_if is_obtain_no m + (one_if is_delegate_req m + (
-    one_if is_prepared m + (one_if is_delegate_no m + (
-    one_if is_ack m + (one_if is_orphan m + (
-    one_if is_revoke_req m + (one_if is_revoke_done m + (
-    one_if is_unlink m))))))))))
+    count_if is_obtain_req m + (count_if is_obtain_ok m + (
+    count_if is_obtain_no m + (count_if is_delegate_req m + (
+    count_if is_prepared m + (count_if is_delegate_no m + (
+    count_if is_ack m + (count_if is_orphan m + (
+    count_if is_revoke_req m + (count_if is_revoke_done m + (
+    count_if is_unlink m))))))))))
 
 one-kind : (m : Message) → kinds_of m ≡ 1
 one-kind (ObtainReq place target) = refl
@@ -57,45 +57,45 @@ all-kinds [] = refl
 all-kinds (m ∷ ms) =
     let rest = all-kinds ms in
     let one = one-kind m in
-    let k0 = sum_by-cons (one_if is_obtain_req) m ms in
-    let k1 = sum_by-cons (one_if is_obtain_ok) m ms in
-    let k2 = sum_by-cons (one_if is_obtain_no) m ms in
-    let k3 = sum_by-cons (one_if is_delegate_req) m ms in
-    let k4 = sum_by-cons (one_if is_prepared) m ms in
-    let k5 = sum_by-cons (one_if is_delegate_no) m ms in
-    let k6 = sum_by-cons (one_if is_ack) m ms in
-    let k7 = sum_by-cons (one_if is_orphan) m ms in
-    let k8 = sum_by-cons (one_if is_revoke_req) m ms in
-    let k9 = sum_by-cons (one_if is_revoke_done) m ms in
-    let k10 = sum_by-cons (one_if is_unlink) m ms in
+    let k0 = sum_by-cons (count_if is_obtain_req) m ms in
+    let k1 = sum_by-cons (count_if is_obtain_ok) m ms in
+    let k2 = sum_by-cons (count_if is_obtain_no) m ms in
+    let k3 = sum_by-cons (count_if is_delegate_req) m ms in
+    let k4 = sum_by-cons (count_if is_prepared) m ms in
+    let k5 = sum_by-cons (count_if is_delegate_no) m ms in
+    let k6 = sum_by-cons (count_if is_ack) m ms in
+    let k7 = sum_by-cons (count_if is_orphan) m ms in
+    let k8 = sum_by-cons (count_if is_revoke_req) m ms in
+    let k9 = sum_by-cons (count_if is_revoke_done) m ms in
+    let k10 = sum_by-cons (count_if is_unlink) m ms in
     omega (arith, rest, one, k0, k1, k2, k3, k4, k5, k6, k7, k8, k9, k10)
 
 module _ (T : Setup) (valid : IsSetup T) (J : List Entry) (runs : IsSchedule T J)
     (idle : IsIdle (world_after T J)) where
   pub obtains-answered : count_sent is_obtain_req J ≡ count_sent is_obtain_ok J + count_sent is_obtain_no J
   obtains-answered =
-      let same = settled-sent T valid J runs idle no_tally obtains (one_if is_obtain_req)
+      let same = settled-sent T valid J runs idle no_tally obtains (count_if is_obtain_req)
       (either is_obtain_ok is_obtain_no) obtains-balanced in
-      let both = sum-both (one_if is_obtain_ok) (one_if is_obtain_no) (sent J) in
+      let both = sum-both (count_if is_obtain_ok) (count_if is_obtain_no) (all_sent J) in
       omega (arith, same, both)
 
   pub delegates-answered : count_sent is_delegate_req J ≡ count_sent is_prepared J + count_sent is_delegate_no J
   delegates-answered =
-      let same = settled-sent T valid J runs idle no_tally delegates (one_if is_delegate_req)
+      let same = settled-sent T valid J runs idle no_tally delegates (count_if is_delegate_req)
       (either is_prepared is_delegate_no) delegates-balanced in
-      let both = sum-both (one_if is_prepared) (one_if is_delegate_no) (sent J) in
+      let both = sum-both (count_if is_prepared) (count_if is_delegate_no) (all_sent J) in
       omega (arith, same, both)
 
   pub delegations-acknowledged : count_sent is_prepared J ≡ count_sent is_ack J
   delegations-acknowledged =
-      settled-sent T valid J runs idle telling pending_ones (one_if is_prepared) (one_if is_ack) acks-balanced
+      settled-sent T valid J runs idle telling pending_ones (count_if is_prepared) (count_if is_ack) acks-balanced
 
   pub grants-told : grants_across T J ≡ count_sent is_obtain_ok J + count_sent is_ack_yes J
   grants-told =
       let same = settled-count T valid J runs idle no_tally grants_told 1 nothing (either is_obtain_ok is_ack_yes)
       told-balanced in
-      let both = sum-both (one_if is_obtain_ok) (one_if is_ack_yes) (sent J) in
-      let none = sum-zero (sent J) in
+      let both = sum-both (count_if is_obtain_ok) (count_if is_ack_yes) (all_sent J) in
+      let none = sum-zero (all_sent J) in
       omega (arith, same, both, none)
 
   pub all-answered : IsAnswered J
@@ -106,12 +106,12 @@ module _ (T : Setup) (valid : IsSetup T) (J : List Entry) (runs : IsSchedule T J
     revokes = revokes-answered T valid J runs idle;
   }
 
-  pub messages-counted : length (sent J) ≡ 2 * count_sent is_obtain_req J
+  pub messages-counted : length (all_sent J) ≡ 2 * count_sent is_obtain_req J
       + (2 * count_sent is_delegate_req J
       + (count_sent is_prepared J
       + (2 * count_sent is_revoke_req J + (count_sent is_orphan J + count_sent is_unlink J))))
   messages-counted =
-      let all = all-kinds (sent J) in
+      let all = all-kinds (all_sent J) in
       let o = obtains-answered in
       let d = delegates-answered in
       let a = delegations-acknowledged in

@@ -28,7 +28,7 @@ use Rattle.sem_msg.specs.Setup.{Setup}
 use Rattle.sem_msg.specs.Lookups.{kernel_of, owner_of, place_owner, pe_owner, pe_of, denies, offered}
 use Rattle.sem_machine.specs.Sides.{Side, cap, own, parked, drawn, promised}
 use Rattle.sem_machine.specs.Sides.{linked, pending_added, send}
-use Rattle.sem_machine.specs.Steps.{Step, plain, asking}
+use Rattle.sem_machine.specs.Steps.{Step, unshown, asking}
 use Rattle.sem_machine.specs.Asks.{asker, is_unawaited, waits_for, ask_refused}
 use Rattle.sem_machine.specs.Calls.{next_key, destination_tests}
 use Rattle.sem_machine.specs.Upcalls.{source, source_tests, given, given_kind, given_here, child_given, obtain_consent}
@@ -83,7 +83,7 @@ module _ (T : Setup) (P N : Tally) (gl lead gr : ℕ) (F : IsFalling P N (gl + l
   Paid a s x = ((of_side T P i x.side + of_side T N i s) + of_ask T N i a) + of_grant T gl x.outcome.grant
       ≤ ((of_side T P i s + of_side T N i x.side) + of_ask T P i a) + of_grant T gr x.outcome.grant
 
-  refused-paid : (code : Code) (a : Ask) (s : Side) → Paid a s (plain (ask_refused T i code a s))
+  refused-paid : (code : Code) (a : Ask) (s : Side) → Paid a s (unshown (ask_refused T i code a s))
   refused-paid code a s = let less = ask_refused-falls T P N gl lead gr F A i R code a s in omega (arith, less)
 
   module _ (s : Side) (home : (c : Capability) → Contains s.caps c → IsOfKernel T i c.key)
@@ -175,7 +175,7 @@ module _ (T : Setup) (P N : Tally) (gl lead gr : ℕ) (F : IsFalling P N (gl + l
           (λ passed. pick (source T s v target) refl passed.0)
         where
           pick : (o : Option Capability) → source T s v target ≡ o → is_none o ≡ false →
-              Paid (ObtainAsk place target) s (option_map_or (child_given T i place target s) o (plain s))
+              Paid (ObtainAsk place target) s (option_map_or (child_given T i place target s) o (unshown s))
           pick None there some = absurd cc
           pick (Some p) there some =
               child_given-paid place target p (home p (source-among T s v target p there)).0 addressed
@@ -206,7 +206,7 @@ module _ (T : Setup) (P N : Tally) (gl lead gr : ℕ) (F : IsFalling P N (gl + l
       pub decided-paid : (a : Ask) → IsAddressed T a → Paid a s (ask_decided T i v a s)
       decided-paid a addressed = from (kernel_of T (asker a) == i) refl
         where
-          asked-on : Paid a s (if denies T v (asker a) then asking (asker a) No (plain (ask_refused T i Refused a s))
+          asked-on : Paid a s (if denies T v (asker a) then asking (asker a) No (unshown (ask_refused T i Refused a s))
               else asking (asker a) Yes (consented T i v a s))
           asked-on = cond_both (denies T v (asker a)) _ _ (Paid a s) (λ _. refused-paid Refused a s)
               (λ _. consented-paid a addressed)

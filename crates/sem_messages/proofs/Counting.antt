@@ -13,8 +13,8 @@ use Rattle.sem_machine.specs.Journals.{grants}
 use Rattle.sem_machine.specs.Schedules.{IsSchedule, world_after}
 use Rattle.sem_machine.specs.Living.{IsIdle}
 use Rattle.sem_machine.proofs.Weighing.{weigh-none}
-use Rattle.sem_safety.specs.Counts.{one_if}
-use Rattle.sem_messages.specs.Messages.{sent_by, sent}
+use Rattle.sem_safety.specs.Counts.{count_if}
+use Rattle.sem_messages.specs.Messages.{sent_by, all_sent}
 use Rattle.sem_messages.specs.Messages.{is_across}
 use Rattle.sem_messages.proofs.Tallies.{Tally}
 use Rattle.sem_messages.proofs.Falling.{of_grant}
@@ -28,7 +28,7 @@ use Rattle.std.proofs.lemmas.List.Concat.{flat_map-cons}
 
 -- what a message counts that is of the one kind or of the other
 abbrev pub either : (Message → Bool) → (Message → Bool) → Message → ℕ
-either a b m = one_if a m + one_if b m
+either a b m = count_if a m + count_if b m
 
 abbrev pub nothing : Message → ℕ
 nothing m = 0
@@ -57,7 +57,7 @@ grant-more T g (Some p) gs = sum_by-cons (across T g) p gs
 
 -- what all entries count
 pub entries-count : (T : Setup) (L : Message → ℕ) (g : ℕ) (J : List Entry) →
-    sum_by (of_entry T L g) J ≡ sum_by L (sent J) + sum_by (across T g) (grants J)
+    sum_by (of_entry T L g) J ≡ sum_by L (all_sent J) + sum_by (across T g) (grants J)
 entries-count T L g [] = refl
 entries-count T L g (e ∷ es) =
     let rest = entries-count T L g es in
@@ -65,7 +65,7 @@ entries-count T L g (e ∷ es) =
     let more : sum_by (across T g) (grants (e ∷ es)) ≡ of_grant T g e.grant + sum_by (across T g) (grants es) =
     grant-more T g e.grant (grants es) in
     let list = ap (sum_by L) (flat_map-cons sent_by e es) in
-    let parts = sum_by-append L (sent_by e) (sent es) in
+    let parts = sum_by-append L (sent_by e) (all_sent es) in
     omega (arith, rest, all, more, list, parts)
 
 -- where a grant counts nothing
@@ -77,7 +77,7 @@ across-none T gs =
 module _ (T : Setup) (valid : IsSetup T) (J : List Entry) (runs : IsSchedule T J)
     (idle : IsIdle (world_after T J)) where
   pub settled-count : (P N : Tally) (g : ℕ) (L R : Message → ℕ) → IsBalanced P N g L R →
-      sum_by L (sent J) + sum_by (across T g) (grants J) ≡ sum_by R (sent J)
+      sum_by L (all_sent J) + sum_by (across T g) (grants J) ≡ sum_by R (all_sent J)
   settled-count P N g L R B =
       let same = balanced P N g L R B T valid J runs in
       let p = idle-none T P B.settled.links.0 valid J runs idle in
@@ -88,7 +88,7 @@ module _ (T : Setup) (valid : IsSetup T) (J : List Entry) (runs : IsSchedule T J
       omega (arith, same, p, n, l, r, none)
 
   -- where no grant counts
-  pub settled-sent : (P N : Tally) (L R : Message → ℕ) → IsBalanced P N 0 L R → sum_by L (sent J) ≡ sum_by R (sent J)
+  pub settled-sent : (P N : Tally) (L R : Message → ℕ) → IsBalanced P N 0 L R → sum_by L (all_sent J) ≡ sum_by R (all_sent J)
   settled-sent P N L R B =
       let count = settled-count P N 0 L R B in
       let none = across-none T (grants J) in

@@ -7,7 +7,7 @@ use Rattle.sem_msg.specs.declared.message.Message.TheVariants.{DelegatePrepared,
 use Rattle.sem_msg.specs.declared.message.Message.TheVariants.{RevokeDone, Unlink}
 use Rattle.sem_msg.specs.declared.state.Ask.{Ask}
 use Rattle.sem_msg.specs.declared.state.Ask.TheVariants.{Obtain as ObtainAsk, Delegate as DelegateAsk}
-use Rattle.sem_safety.specs.Counts.{one_if}
+use Rattle.sem_safety.specs.Counts.{count_if}
 use Rattle.sem_revoke.proofs.Growing.{is_plain}
 use Rattle.sem_messages.specs.Messages.{is_obtain_req, is_obtain_ok, is_obtain_no, is_delegate_req}
 use Rattle.sem_messages.specs.Messages.{is_prepared, is_delegate_no, is_ack, is_ack_yes}
@@ -32,7 +32,7 @@ of_delegate (DelegateAsk parent object sel) = 1
 abbrev pub obtains : Tally
 obtains = record {
   out = either is_obtain_ok is_obtain_no;
-  on = one_if is_obtain_req;
+  on = count_if is_obtain_req;
   ask = of_obtain;
   pend = 0;
   job = λ x. 0;
@@ -43,7 +43,7 @@ obtains = record {
 abbrev pub delegates : Tally
 delegates = record {
   out = either is_prepared is_delegate_no;
-  on = one_if is_delegate_req;
+  on = count_if is_delegate_req;
   ask = of_delegate;
   pend = 0;
   job = λ x. 0;
@@ -53,8 +53,8 @@ delegates = record {
 -- A delegation is pending from its preparation on, until its Ack is handled.
 abbrev pub telling : Tally
 telling = record {
-  out = one_if is_prepared;
-  on = one_if is_ack;
+  out = count_if is_prepared;
+  on = count_if is_ack;
   ask = λ a. 0;
   pend = 0;
   job = λ x. 0;
@@ -76,7 +76,7 @@ grants_told = record {
 }
 
 -- obtains
-obtains-flush : (m : Message) → (no_tally.on m + obtains.out m) + one_if is_obtain_req m
+obtains-flush : (m : Message) → (no_tally.on m + obtains.out m) + count_if is_obtain_req m
     ≡ (obtains.on m + no_tally.out m) + either is_obtain_ok is_obtain_no m
 obtains-flush (ObtainReq place target) = omega arith
 obtains-flush (ObtainOk parent key object) = omega arith
@@ -116,7 +116,7 @@ obtains-sends (RevokeReq key job) none = refl
 obtains-sends (RevokeDone job) none = refl
 obtains-sends (Unlink parent key) none = refl
 
-pub obtains-balanced : IsBalanced no_tally obtains 0 (one_if is_obtain_req) (either is_obtain_ok is_obtain_no)
+pub obtains-balanced : IsBalanced no_tally obtains 0 (count_if is_obtain_req) (either is_obtain_ok is_obtain_no)
 obtains-balanced = record {
   obtain = λ place target. refl;
   delegate = λ parent object vpe sel. refl;
@@ -142,7 +142,7 @@ obtains-balanced = record {
 }
 
 -- delegates
-delegates-flush : (m : Message) → (no_tally.on m + delegates.out m) + one_if is_delegate_req m
+delegates-flush : (m : Message) → (no_tally.on m + delegates.out m) + count_if is_delegate_req m
     ≡ (delegates.on m + no_tally.out m) + either is_prepared is_delegate_no m
 delegates-flush (ObtainReq place target) = omega arith
 delegates-flush (ObtainOk parent key object) = omega arith
@@ -182,7 +182,7 @@ delegates-sends (RevokeReq key job) none = refl
 delegates-sends (RevokeDone job) none = refl
 delegates-sends (Unlink parent key) none = refl
 
-pub delegates-balanced : IsBalanced no_tally delegates 0 (one_if is_delegate_req) (either is_prepared is_delegate_no)
+pub delegates-balanced : IsBalanced no_tally delegates 0 (count_if is_delegate_req) (either is_prepared is_delegate_no)
 delegates-balanced = record {
   obtain = λ place target. refl;
   delegate = λ parent object vpe sel. refl;
@@ -208,8 +208,8 @@ delegates-balanced = record {
 }
 
 -- acks
-acks-flush : (m : Message) → (telling.on m + pending_ones.out m) + one_if is_prepared m
-    ≡ (pending_ones.on m + telling.out m) + one_if is_ack m
+acks-flush : (m : Message) → (telling.on m + pending_ones.out m) + count_if is_prepared m
+    ≡ (pending_ones.on m + telling.out m) + count_if is_ack m
 acks-flush (ObtainReq place target) = omega arith
 acks-flush (ObtainOk parent key object) = omega arith
 acks-flush (ObtainNo place code) = omega arith
@@ -248,7 +248,7 @@ acks-sends (RevokeReq key job) none = refl
 acks-sends (RevokeDone job) none = refl
 acks-sends (Unlink parent key) none = refl
 
-pub acks-balanced : IsBalanced telling pending_ones 0 (one_if is_prepared) (one_if is_ack)
+pub acks-balanced : IsBalanced telling pending_ones 0 (count_if is_prepared) (count_if is_ack)
 acks-balanced = record {
   obtain = λ place target. refl;
   delegate = λ parent object vpe sel. refl;

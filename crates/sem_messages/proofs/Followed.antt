@@ -16,8 +16,8 @@ use Rattle.sem_machine.specs.Journals.{grants}
 use Rattle.sem_machine.specs.Machine.{World, side}
 use Rattle.sem_machine.specs.Schedules.{IsSchedule, world_after}
 use Rattle.sem_machine.proofs.Weighing.{weigh-none}
-use Rattle.sem_safety.specs.Counts.{one_if}
-use Rattle.sem_messages.specs.Messages.{sent, is_revoke_req, count_sent, grants_across}
+use Rattle.sem_safety.specs.Counts.{count_if}
+use Rattle.sem_messages.specs.Messages.{all_sent, is_revoke_req, count_sent, grants_across}
 use Rattle.sem_messages.proofs.Tallies.{Tally, of_ask, of_row, of_outbox, of_inbox, of_side}
 use Rattle.sem_messages.proofs.Links.{caps-bare}
 use Rattle.sem_messages.proofs.Falling.{is_done, IsFalling, AreLed}
@@ -31,7 +31,7 @@ use Rattle.sem_messages.proofs.Revoking.{IsFair, fair-revokings}
 -- A link of an unmarked capability to another kernel, and a request that waits to be sent.
 abbrev pub followed : Setup → Tally
 followed T = record {
-  out = one_if is_revoke_req;
+  out = count_if is_revoke_req;
   on = nothing;
   ask = λ a. 0;
   pend = 0;
@@ -100,7 +100,7 @@ module _ (T : Setup) where
     most = λ i k. cond_both (is_local T i k) 0 1 (λ n. n ≤ 1) (λ _. omega arith) (λ _. omega arith);
   }
 
-  followed-flush : IsFlushed (followed T) no_tally (one_if is_revoke_req) nothing
+  followed-flush : IsFlushed (followed T) no_tally (count_if is_revoke_req) nothing
   followed-flush (ObtainReq place target) = omega arith
   followed-flush (ObtainOk parent key object) = omega arith
   followed-flush (ObtainNo place code) = omega arith
@@ -139,12 +139,12 @@ module _ (T : Setup) where
 pub revokes-few : (T : Setup) → IsSetup T → (J : List Entry) → IsSchedule T J →
     count_sent is_revoke_req J ≤ grants_across T J
 revokes-few T valid J runs =
-    let less = schedule-kept T (followed T) no_tally 0 1 1 (followed-falls T) (followed-led T) (one_if is_revoke_req)
+    let less = schedule-kept T (followed T) no_tally 0 1 1 (followed-falls T) (followed-led T) (count_if is_revoke_req)
     nothing (followed-flush T) (fair-revokings T (followed T) no_tally 0 (followed-fair T)) J
     (λ before runs' i within. side-known T valid before runs' i within) runs in
     let world = world-nothing T (world_after T J) in
-    let l = entries-count T (one_if is_revoke_req) 0 J in
+    let l = entries-count T (count_if is_revoke_req) 0 J in
     let r = entries-count T nothing 1 J in
     let none = across-none T (grants J) in
-    let nought = sum-zero (sent J) in
+    let nought = sum-zero (all_sent J) in
     omega (arith, less, world, l, r, none, nought)

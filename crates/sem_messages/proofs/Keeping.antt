@@ -24,7 +24,7 @@ use Rattle.sem_msg.specs.Setup.{Setup}
 use Rattle.sem_msg.specs.Lookups.{decl, pe_of, pe_owner, owner_of, kernel_of}
 use Rattle.sem_msg.specs.Journal.{message_in}
 use Rattle.sem_machine.specs.Sides.{Side, row, parked, outbox, call_counted, ask_taken, unparked, with_inbox}
-use Rattle.sem_machine.specs.Steps.{Step, plain}
+use Rattle.sem_machine.specs.Steps.{Step, unshown}
 use Rattle.sem_machine.specs.Calls.{call_row}
 use Rattle.sem_machine.specs.Upcalls.{ask_decided, upcall_row}
 use Rattle.sem_machine.specs.Handles.{handled}
@@ -84,7 +84,7 @@ module _ (T : Setup) (P N : Tally) (gl lead gr : ℕ) (F : IsFalling P N (gl + l
   unfolding local_step
   called i s v is here pe = from (next_call T s v)
     where
-      from : (o : Option Call) → FellAt i s (option_map_or (call_row T i (call_counted v s) v) o (plain s))
+      from : (o : Option Call) → FellAt i s (option_map_or (call_row T i (call_counted v s) v) o (unshown s))
       from None = omega arith
       from (Some c) =
           let p = side-counted T P i s v in
@@ -99,7 +99,7 @@ module _ (T : Setup) (P N : Tally) (gl lead gr : ℕ) (F : IsFalling P N (gl + l
   upcalled i s v is pe = from (slice_get (row s v).asks 0) refl
     where
       from : (o : Option Ask) → slice_get (row s v).asks 0 ≡ o →
-          FellAt i s (option_map_or (λ a. ask_decided T i v a (ask_taken v s)) o (plain s))
+          FellAt i s (option_map_or (λ a. ask_decided T i v a (ask_taken v s)) o (unshown s))
       from None at = omega arith
       from (Some a) at =
           let p = side-taken T P i s v in

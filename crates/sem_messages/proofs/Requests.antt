@@ -12,8 +12,8 @@ use Rattle.sem_msg.specs.Setup.{Setup, IsSetup}
 use Rattle.sem_machine.specs.Journals.{grants}
 use Rattle.sem_machine.specs.Schedules.{IsSchedule, world_after}
 use Rattle.sem_machine.specs.Living.{IsIdle}
-use Rattle.sem_safety.specs.Counts.{one_if}
-use Rattle.sem_messages.specs.Messages.{sent, is_revoke_req, is_revoke_done, count_sent}
+use Rattle.sem_safety.specs.Counts.{count_if}
+use Rattle.sem_messages.specs.Messages.{all_sent, is_revoke_req, is_revoke_done, count_sent}
 use Rattle.sem_messages.proofs.Links.{IsBare}
 use Rattle.sem_messages.proofs.Tallies.{Tally}
 use Rattle.sem_messages.proofs.Falling.{is_done, IsFalling}
@@ -38,8 +38,8 @@ of_near_up (Some (Remote kernel j)) = 0
 -- A request is owed an answer from its flush on, by the message and then by a job, until the answer is put into a link.
 abbrev pub owed_answers : Tally
 owed_answers = record {
-  out = one_if is_revoke_done;
-  on = one_if is_revoke_req;
+  out = count_if is_revoke_done;
+  on = count_if is_revoke_req;
   ask = λ a. 0;
   pend = 0;
   job = λ x. of_far_up x.up;
@@ -49,8 +49,8 @@ owed_answers = record {
 -- What jobs count pays for the requests that are out and for the jobs below.
 abbrev pub out_for_jobs : Tally
 out_for_jobs = record {
-  out = one_if is_revoke_req;
-  on = one_if is_revoke_done;
+  out = count_if is_revoke_req;
+  on = count_if is_revoke_done;
   ask = λ a. 0;
   pend = 0;
   job = λ x. of_near_up x.up;
@@ -91,7 +91,7 @@ owed-falls = record {
   done = owed-done;
 }
 
-owed-flush : IsFlushed owed_answers no_tally (one_if is_revoke_done) (one_if is_revoke_req)
+owed-flush : IsFlushed owed_answers no_tally (count_if is_revoke_done) (count_if is_revoke_req)
 owed-flush (ObtainReq place target) = omega arith
 owed-flush (ObtainOk parent key object) = omega arith
 owed-flush (ObtainNo place code) = omega arith
@@ -155,7 +155,7 @@ paid-falls = record {
   done = paid-done;
 }
 
-paid-flush : IsFlushed out_for_jobs counts (one_if is_revoke_req) (one_if is_revoke_done)
+paid-flush : IsFlushed out_for_jobs counts (count_if is_revoke_req) (count_if is_revoke_done)
 paid-flush (ObtainReq place target) = omega arith
 paid-flush (ObtainOk parent key object) = omega arith
 paid-flush (ObtainNo place code) = omega arith
@@ -193,7 +193,7 @@ module _ (T : Setup) (valid : IsSetup T) (J : List Entry) (runs : IsSchedule T J
   -- the two sides of a sum that falls
   settled-less : (P N : Tally) (L R : Message → ℕ) (d : ℕ) → IsFalling P N 0 0 → IsFlushed P N L R → IsBare P →
       IsFair T P N d →
-      sum_by L (sent J) ≤ sum_by R (sent J)
+      sum_by L (all_sent J) ≤ sum_by R (all_sent J)
   settled-less P N L R d falls flush bare fair =
       let less = schedule-kept T P N 0 0 0 falls (record {
         bare = fair.bare;
@@ -209,9 +209,9 @@ module _ (T : Setup) (valid : IsSetup T) (J : List Entry) (runs : IsSchedule T J
 
   pub revokes-answered : count_sent is_revoke_req J ≡ count_sent is_revoke_done J
   revokes-answered =
-      let less = settled-less owed_answers no_tally (one_if is_revoke_done) (one_if is_revoke_req) 0 owed-falls
+      let less = settled-less owed_answers no_tally (count_if is_revoke_done) (count_if is_revoke_req) 0 owed-falls
       owed-flush
       (λ i k. refl) (owed-fair T) in
-      let more = settled-less out_for_jobs counts (one_if is_revoke_req) (one_if is_revoke_done) 1 paid-falls paid-flush
+      let more = settled-less out_for_jobs counts (count_if is_revoke_req) (count_if is_revoke_done) 1 paid-falls paid-flush
       (λ i k. refl) (paid-fair T) in
       omega (arith, less, more)

@@ -20,7 +20,7 @@ use Rattle.sem_machine.specs.Schedules.{IsSchedule, world_after}
 use Rattle.sem_machine.specs.Living.{IsQuiet}
 use Rattle.sem_safety.specs.Walks.{walked, all_enabled, pair}
 use Rattle.sem_safety.proofs.Walking.{journal-schedule, pair-setup}
-use Rattle.sem_messages.specs.Messages.{sent, count_sent, is_obtain_req, is_obtain_ok, is_obtain_no, is_delegate_req}
+use Rattle.sem_messages.specs.Messages.{all_sent, count_sent, is_obtain_req, is_obtain_ok, is_obtain_no, is_delegate_req}
 use Rattle.sem_messages.specs.Messages.{is_prepared, is_delegate_no, is_ack, is_ack_yes, is_orphan, is_revoke_req}
 use Rattle.sem_messages.specs.Messages.{is_revoke_done, is_unlink, grants_across}
 use Rattle.sem_messages.specs.EachKind.{giver_calls, taker_calls, each_kind, each_kind_events, each_kind_journal}
@@ -72,7 +72,7 @@ unfolding each_kind each_kind_events pair walked put in_turn unless services_fro
     is_enabled enabled after entry_of
 notices-sent = (refl, refl)
 
-pub grants-made : (grants_across each_kind each_kind_journal ≡ 3) × (length (sent each_kind_journal) ≡ 15)
+pub grants-made : (grants_across each_kind each_kind_journal ≡ 3) × (length (all_sent each_kind_journal) ≡ 15)
 unfolding each_kind each_kind_events pair walked put in_turn unless services_from grow closed_here finish opened
     ended call_row upcall_row handle_row resume_row start_side start local_step local_entry is_locally_enabled
     is_enabled enabled after entry_of

@@ -19,26 +19,26 @@ unfoldable pub each_kind : Setup
 each_kind = pair giver_calls taker_calls ((1, 6) ∷ [])
 
 -- a message goes from one kernel to another, and is handled there
-abbrev carried : ℕ → ℕ → List Event
-carried i j = event i (Flush j) ∷ event j (Fetch i) ∷ event j Handle ∷ []
+abbrev carry_events : ℕ → ℕ → List Event
+carry_events i j = event i (Flush j) ∷ event j (Fetch i) ∷ event j Handle ∷ []
 
 -- VPE v of kernel v asks the VPE of kernel w, and has its answer
-abbrev asked : ℕ → ℕ → List Event
-asked v w =
-    event v (Calls v) ∷ carried v w ++ event w (Upcall w) ∷ carried w v ++ event v (Resume v) ∷ []
+abbrev ask_events : ℕ → ℕ → List Event
+ask_events v w =
+    event v (Calls v) ∷ carry_events v w ++ event w (Upcall w) ∷ carry_events w v ++ event v (Resume v) ∷ []
 
 unfoldable pub each_kind_events : List Event
 each_kind_events =
     -- the memory is delegated, and acknowledged; then a delegate is refused
-    asked 0 1 ++ carried 0 1 ++ asked 0 1
+    ask_events 0 1 ++ carry_events 0 1 ++ ask_events 0 1
     -- an obtain is granted; an obtain is refused
-    ++ asked 1 0 ++ asked 1 0
+    ++ ask_events 1 0 ++ ask_events 1 0
     -- the obtained memory is revoked, the delegated one is cleared
-    ++ event 1 (Calls 1) ∷ event 1 (Resume 1) ∷ carried 1 0
-    ++ event 0 (Calls 0) ∷ carried 0 1 ++ carried 1 0 ++ event 0 (Resume 0)
+    ++ event 1 (Calls 1) ∷ event 1 (Resume 1) ∷ carry_events 1 0
+    ++ event 0 (Calls 0) ∷ carry_events 0 1 ++ carry_events 1 0 ++ event 0 (Resume 0)
     -- an obtain is granted to a VPE that is dead when the answer comes
-    ∷ event 1 (Calls 1) ∷ carried 1 0 ++ event 0 (Upcall 0) ∷ event 1 (Kill 1)
-    ∷ carried 0 1 ++ carried 1 0
+    ∷ event 1 (Calls 1) ∷ carry_events 1 0 ++ event 0 (Upcall 0) ∷ event 1 (Kill 1)
+    ∷ carry_events 0 1 ++ carry_events 1 0
 
 -- the journal that they make
 abbrev pub each_kind_journal : List Entry

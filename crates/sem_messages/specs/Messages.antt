@@ -18,8 +18,8 @@ abbrev pub sent_by : Entry → List Message
 sent_by e = if is_flush e.event.act then message_in e.detail else []
 
 -- all messages that the kernels sent each other, in order
-abbrev pub sent : List Entry → List Message
-sent J = flat_map sent_by J
+abbrev pub all_sent : List Entry → List Message
+all_sent J = flat_map sent_by J
 
 -- Kinds of messages.
 
@@ -74,7 +74,7 @@ is_unlink m = false
 
 -- how many messages of a kind were sent
 abbrev pub count_sent : (Message → Bool) → List Entry → ℕ
-count_sent kind J = count_by kind (sent J)
+count_sent kind J = count_by kind (all_sent J)
 
 -- Grants.
 

@@ -2,7 +2,7 @@ ghost use Rattle.std.specs.Prelude.{◌≡◌, ◌≤◌, length};
 ghost use Rattle.sem_msg.specs.Setup.{IsSetup};
 ghost use Rattle.sem_machine.specs.Schedules.{Always, IsSchedule, world_after};
 ghost use Rattle.sem_machine.specs.Living.{IsIdle, IsQuiet};
-ghost use Rattle.sem_messages.specs.Messages.{sent, count_sent, messages_made};
+ghost use Rattle.sem_messages.specs.Messages.{all_sent, count_sent, messages_made};
 ghost use Rattle.sem_messages.specs.Messages.{grants_across, grants_told, IsAnswered};
 ghost use Rattle.sem_messages.specs.Messages.{is_obtain_req, is_obtain_ok, is_obtain_no};
 ghost use Rattle.sem_messages.specs.Messages.{is_delegate_req, is_prepared, is_delegate_no};
@@ -28,7 +28,7 @@ pub fn grants_are_told()
 /// across kernels, two for each delegate and one more for each prepared one, two for each request
 /// to revoke, and one for each orphan and unlink.
 pub fn messages_are_counted()
-    ensures counted { Always (λ T J. IsIdle (world_after T J) → length (sent J) ≡ messages_made J) }
+    ensures counted { Always (λ T J. IsIdle (world_after T J) → length (all_sent J) ≡ messages_made J) }
 {}
 
 /// After every schedule, idle or not, no more requests to revoke were sent than grants were made
@@ -56,5 +56,5 @@ pub fn each_kind_is_sent()
     ensures notices { (count_sent is_orphan each_kind_journal ≡ 1)
         × (count_sent is_unlink each_kind_journal ≡ 1) }
     ensures grants { grants_across each_kind each_kind_journal ≡ 3 }
-    ensures sent { length (sent each_kind_journal) ≡ 15 }
+    ensures all_sent { length (all_sent each_kind_journal) ≡ 15 }
 {}

@@ -11,7 +11,7 @@ use Rattle.sem_key.proofs.Members.{found, not_found, list_any-some}
 use Rattle.sem_msg.specs.declared.setup.VpeDecl.{VpeDecl}
 use Rattle.sem_msg.specs.Versions.{most_vpes}
 use Rattle.sem_msg.specs.Setup.{Setup, IsSetup, IsVpeDecl}
-use Rattle.sem_msg.specs.Lookups.{decl, is_declared, kernel_of, pe_owner, IsPlaced}
+use Rattle.sem_msg.specs.Lookups.{decl, is_declared, kernel_of, pe_owner, HasValidPlace}
 
 -- in either version there are at most 128 VPEs, and as many PEs
 pub most_vpes-le : (version : ℕ) → most_vpes version ≤ 128
@@ -41,10 +41,10 @@ declared-some T v declared = from (decl T v) refl
     from (Some d) some = (d, some)
 
 -- the PE and the VPE are in their ranges
-pub placed : (T : Setup) (v : ℕ) → IfSome (decl T v) (IsVpeDecl T) → is_declared T v ≡ true → IsPlaced T v
+pub placed : (T : Setup) (v : ℕ) → IfSome (decl T v) (IsVpeDecl T) → is_declared T v ≡ true → HasValidPlace T v
 placed T v valid declared = from (declared-some T v declared).0 (declared-some T v declared).1
   where
-    from : (d : VpeDecl) → decl T v ≡ Some d → IsPlaced T v
+    from : (d : VpeDecl) → decl T v ≡ Some d → HasValidPlace T v
     from d some =
         let few = most_vpes-le T.version in
         let there = found (λ (e : VpeDecl). e.vpe == v) T.vpes d some in

@@ -4,14 +4,14 @@ use Rattle.sem_msg.specs.declared.event.Act.{Act}
 use Rattle.sem_msg.specs.declared.event.Act.TheVariants.{Call as Calls, Fetch, Handle, Upcall, Resume, Flush, Kill}
 
 -- the number of an act
-abbrev pub number_of : Act → ℕ
-number_of (Calls vpe) = 1
-number_of (Fetch from) = 2
-number_of Handle = 3
-number_of (Upcall vpe) = 4
-number_of (Resume vpe) = 5
-number_of (Flush to) = 6
-number_of (Kill vpe) = 7
+abbrev pub number_of_act : Act → ℕ
+number_of_act (Calls vpe) = 1
+number_of_act (Fetch from) = 2
+number_of_act Handle = 3
+number_of_act (Upcall vpe) = 4
+number_of_act (Resume vpe) = 5
+number_of_act (Flush to) = 6
+number_of_act (Kill vpe) = 7
 
 -- the VPE whose call an act answers
 abbrev pub replied_vpe : Act → ℕ

@@ -47,10 +47,10 @@ abbrev pub if_done : Option JobRow → Option JobRow
 if_done o = option_and_then (λ x. if x.count == 0 then Some x else None) o
 
 -- the job of this kernel that waits for a finished one gets a token back
-abbrev pub told : Option Up → List JobRow → List JobRow
-told None xs = xs
-told (Some (Local j)) xs = count_lowered j xs
-told (Some (Remote kernel j)) xs = xs
+abbrev pub token_given_back : Option Up → List JobRow → List JobRow
+token_given_back None xs = xs
+token_given_back (Some (Local j)) xs = count_lowered j xs
+token_given_back (Some (Remote kernel j)) xs = xs
 
 -- the job that finishes after one with that `up`: a job of this kernel with no token out any more
 abbrev pub next_done : Option Up → List JobRow → Option JobRow

@@ -26,7 +26,7 @@ abbrev pub pe_of : Setup → ℕ → ℕ
 pe_of T v = option_map_or (λ d. d.pe) (decl T v) PES
 
 -- the PE and the VPE are in their ranges
-pub record IsPlaced (T : Setup) (v : ℕ) : Type 0 where
+pub record HasValidPlace (T : Setup) (v : ℕ) : Type 0 where
   pub pe : pe_of T v < PES
   pub vpe : v < VPES
 

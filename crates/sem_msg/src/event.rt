@@ -1,5 +1,5 @@
 ghost use Rattle.std.specs.Prelude.{◌≡◌};
-ghost use Rattle.sem_msg.specs.Act.{number_of, only_moves as only_moves_spec};
+ghost use Rattle.sem_msg.specs.Act.{number_of_act, only_moves as only_moves_spec};
 ghost use Rattle.sem_msg.specs.Act.{replied_vpe as replied_vpe_spec};
 
 /// What one kernel does in one atomic step.
@@ -49,7 +49,7 @@ impl Act {
 
 /// The number of the act, 1 to 7 in the order of `Act`.
 pub fn act_number(act: Act) -> u8
-    ensures { result ≡ number_of act }
+    ensures { result ≡ number_of_act act }
 {
     match act {
         Act::Call { .. } => 1,

@@ -10,7 +10,7 @@ ghost use Rattle.sem_msg.specs.Lookups.{is_declared_at as is_declared_at_spec};
 ghost use Rattle.sem_msg.specs.Lookups.{denies as denies_spec};
 ghost use Rattle.sem_msg.specs.Lookups.{pe_of as pe_of_spec, pe_owner as pe_owner_spec};
 ghost use Rattle.sem_msg.specs.Lookups.{owner_of as owner_of_spec, place_owner as place_owner_spec};
-ghost use Rattle.sem_msg.specs.Lookups.{kernel_of as kernel_of_spec, IsPlaced};
+ghost use Rattle.sem_msg.specs.Lookups.{kernel_of as kernel_of_spec, HasValidPlace};
 ghost use Rattle.sem_msg.specs.Lookups.{is_key_declared as is_key_declared_spec};
 ghost use Rattle.sem_msg.specs.Lookups.{is_target_declared as is_target_declared_spec};
 ghost use Rattle.sem_msg.specs.Lookups.{is_object_declared as is_object_declared_spec};
@@ -62,7 +62,7 @@ impl Setup {
     /// The PE of a VPE; 128, which is no PE, if the VPE is not declared.
     pub fn pe_of(&self, vpe: u16) -> u8
         ensures pe { result ≡ pe_of_spec self.now vpe }
-        ensures placed { is_declared_spec self.now vpe ≡ true → IsPlaced self.now vpe }
+        ensures placed { is_declared_spec self.now vpe ≡ true → HasValidPlace self.now vpe }
     {
         self.decl(vpe).map_or(PES as u8, |decl| decl.pe)
     }

@@ -14,7 +14,7 @@ use Rattle.sem_machine.specs.Sides.{outbox}
 use Rattle.sem_machine.specs.Machine.{local_step, local_entry}
 use Rattle.sem_kernel.specs.KernelValue.{KernelValue, IsInput}
 use Rattle.sem_kernel.specs.Rooms.{only_moves}
-use Rattle.sem_kernel.specs.Worlds.{is_passable, taken, carried, CanAct, HasDone}
+use Rattle.sem_kernel.specs.Worlds.{is_passable, taken, fabric_moved, CanAct, HasDone}
 use Rattle.sem_kernel.proofs.Peers.{enabled-peer, able-below}
 use Rattle.sem_parts.proofs.EnteredSteps.{flush-carries}
 use Rattle.sem_turn.specs.Passes.{IsWhole}
@@ -48,7 +48,7 @@ module _ (k : KernelValue) (f : FabricValue) (whole : IsWhole k.setup f) where
   }
 
   flush-whole : (j : ℕ) → CanAct k f (Flush j) → length (link_in f.links k.id j) < f.window →
-      IsWhole k.setup (entered (local_entry k.setup k.id k.side (Flush j) None) (carried k.id k.side (Flush j) f))
+      IsWhole k.setup (entered (local_entry k.setup k.id k.side (Flush j) None) (fabric_moved k.id k.side (Flush j) f))
   unfolding local_entry
   flush-whole j can room =
       let sent = flush-carries k.setup k.id k.side j can.enabled in
@@ -60,7 +60,7 @@ module _ (k : KernelValue) (f : FabricValue) (whole : IsWhole k.setup f) where
       })
 
   moves-whole : (act : Act) → CanAct k f act → only_moves act ≡ true → is_passable f k.id act ≡ true → IsInput act (taken f k.id act) →
-      IsWhole k.setup (entered (local_entry k.setup k.id k.side act (taken f k.id act)) (carried k.id k.side act f))
+      IsWhole k.setup (entered (local_entry k.setup k.id k.side act (taken f k.id act)) (fabric_moved k.id k.side act f))
   moves-whole (Fetch j) can moves passes is = fetch-whole j (slice_get (link_in f.links j k.id) 0) can is refl
   moves-whole (Flush j) can moves passes is = flush-whole j can (ltb-true (length (link_in f.links k.id j)) f.window passes)
   moves-whole (Calls v) can moves passes is = absurd cc
@@ -77,7 +77,7 @@ module _ (k : KernelValue) (f : FabricValue) (whole : IsWhole k.setup f) where
     -- places do not matter
     pub done-whole : is_passable f k.id act ≡ true → IsWhole k.setup g
     done-whole passes =
-        let after : FabricValue = entered (local_entry k.setup k.id k.side act (taken f k.id act)) (carried k.id k.side act f) in
+        let after : FabricValue = entered (local_entry k.setup k.id k.side act (taken f k.id act)) (fabric_moved k.id k.side act f) in
         let there : IsWhole k.setup after = moves-whole act can moves passes done.input in
         let journal : g.journal ≡ f.journal ++ local_entry k.setup k.id k.side act (taken f k.id act) ∷ [] =
         done.journal ∙ ap (λ x. f.journal ++ x ∷ []) done.entry in
@@ -97,7 +97,7 @@ module _ (k : KernelValue) (f : FabricValue) (whole : IsWhole k.setup f) where
             } in
             subst (IsWhole T) (sym same) (record { agrees = whole.agrees; square = whole.square })
 
-        carried-journal : (a : Act) → (entered (local_entry k.setup k.id k.side act (taken f k.id act)) (carried k.id k.side a f)).journal
+        carried-journal : (a : Act) → (entered (local_entry k.setup k.id k.side act (taken f k.id act)) (fabric_moved k.id k.side a f)).journal
             ≡ f.journal ++ local_entry k.setup k.id k.side act (taken f k.id act) ∷ []
         carried-journal (Calls v) = refl
         carried-journal (Resume v) = refl

@@ -20,7 +20,7 @@ use Rattle.sem_parts.specs.Parts.{IsHanded, RunsTo}
 use Rattle.sem_parts.proofs.LocalRuns.{entry-event, runs-step}
 use Rattle.sem_node.specs.Running.{HasRun}
 use Rattle.sem_node.specs.declared.cell.Progress.TheVariants.{Done, Replied}
-use Rattle.sem_node.specs.Telling.{Tells}
+use Rattle.sem_node.specs.Telling.{TellsProgress}
 
 -- for which act there is room changes nothing of the run
 pub run-readied : (T : Setup) (k r : KernelValue) (p : PassValue) → r ≡ record k { ready = r.ready } → HasRun T k p → HasRun T r p
@@ -161,6 +161,6 @@ made-kernel-on T l p w act e made same = made.kernel ∙ sym (ap (λ (x : PassVa
 
 -- what an act that a kernel did alone says of its entry
 pub tells-alone : (act : Act) (old new : List Entry) (e : Entry) (b : Bool) (n : ℕ) → new ≡ old ++ e ∷ [] → e.event.act ≡ act → b ≡ is_some e.reply →
-    Tells act old new (if b then Replied n else Done)
+    TellsProgress act old new (if b then Replied n else Done)
 tells-alone act old new e true n came tells replied = record { entry = e; came = came; tells = tells; reply = sym replied }
 tells-alone act old new e false n came tells replied = record { entry = e; came = came; tells = tells; reply = sym replied }

@@ -13,12 +13,12 @@ pub record HasOneMore (act : Act) (replied : Bool) (old new : List Entry) : Type
   pub reply : is_some entry.reply ≡ replied
 
 -- what an act that the kernel does alone says
-abbrev pub Tells : Act → List Entry → List Entry → Progress → Type 0
-Tells act old new Nothing = new ≡ old
-Tells act old new Done = HasOneMore act false old new
-Tells act old new (Replied count) = HasOneMore act true old new
+abbrev pub TellsProgress : Act → List Entry → List Entry → Progress → Type 0
+TellsProgress act old new Nothing = new ≡ old
+TellsProgress act old new Done = HasOneMore act false old new
+TellsProgress act old new (Replied count) = HasOneMore act true old new
 
 -- whether a fetch or a flush was done, by its answer
-abbrev pub is_done : Option Linked → Bool
-is_done None = false
-is_done (Some linked) = linked.done
+abbrev pub has_moved : Option Linked → Bool
+has_moved None = false
+has_moved (Some linked) = linked.done

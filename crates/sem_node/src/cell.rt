@@ -4,7 +4,7 @@ ghost use Rattle.sem_msg.specs.Fabric.{IsOwnAct};
 ghost use Rattle.sem_msg.specs.Lookups.{kernel_of};
 ghost use Rattle.sem_node.specs.declared.cell.Progress.TheVariants.{Done, Replied};
 ghost use Rattle.sem_node.specs.Running.{HasRun};
-ghost use Rattle.sem_node.specs.Telling.{HasOneMore, Tells, is_done};
+ghost use Rattle.sem_node.specs.Telling.{HasOneMore, TellsProgress, has_moved};
 
 use crate::bell::Bell;
 use crate::gate::{Gate, Gated, Permit};
@@ -136,7 +136,7 @@ impl<N: RunName> KernelCell<N> {
         act: Act,
     ) -> Result<Progress, OutOfMemory>
         requires { IsOwnAct act }
-        ensures told { IfOk result (Tells act self.old.pass.entries self.new.pass.entries) }
+        ensures told { IfOk result (TellsProgress act self.old.pass.entries self.new.pass.entries) }
         ensures err { OnErr result (self.new.pass.entries ≡ self.old.pass.entries) }
     {
         if !self.kernel.enabled(act, 0) {
@@ -190,7 +190,7 @@ impl<N: RunName> KernelCell<N> {
         gate: &G,
         act: Act,
     ) -> Result<Option<Linked>, OutOfMemory>
-        ensures told { IfOk result (λ linked. MatchBool (is_done linked)
+        ensures told { IfOk result (λ linked. MatchBool (has_moved linked)
             (HasOneMore act false self.old.pass.entries self.new.pass.entries)
             (self.new.pass.entries ≡ self.old.pass.entries)) }
         ensures err { OnErr result (self.new.pass.entries ≡ self.old.pass.entries) }

@@ -5,7 +5,7 @@ ghost use Rattle.std.specs.Result.{result_ok};
 ghost use Rattle.sem_kernel.specs.Worlds.{NamesPeer};
 ghost use Rattle.sem_turn.specs.Passes.{has_place};
 ghost use Rattle.sem_node.specs.Stepping.{IsReadyToTry, HasTried};
-ghost use Rattle.sem_node.specs.Telling.{is_done};
+ghost use Rattle.sem_node.specs.Telling.{has_moved};
 
 use crate::gate::{Gated, Permit};
 use crate::places::next_place;
@@ -63,7 +63,7 @@ fn placed_step(
 ) -> Result<Linked, OutOfMemory>
     requires can { IsReadyToTry kernel.old fabric.old act }
     requires permit { permit ≡ record { kernel = kernel.old.id; act = act } }
-    ensures { HasTried (is_done (result_ok result)) kernel.old fabric.old act kernel.new
+    ensures { HasTried (has_moved (result_ok result)) kernel.old fabric.old act kernel.new
         fabric.new }
 {
     fabric.reserve(kernel.id())?;
@@ -82,7 +82,7 @@ pub struct Tried {
 pub fn turn_step(kernel: &mut Gated, fabric: &mut Fabric, permit: Permit, act: Act) -> Tried
     requires can { IsReadyToTry kernel.old fabric.old act }
     requires permit { permit ≡ record { kernel = kernel.old.id; act = act } }
-    ensures tried { HasTried (is_done (result_ok result.linked)) kernel.old fabric.old act
+    ensures tried { HasTried (has_moved (result_ok result.linked)) kernel.old fabric.old act
         kernel.new fabric.new }
     ensures place { result.placed ≡ true → has_place fabric.new kernel.old.id ≡ true }
 {

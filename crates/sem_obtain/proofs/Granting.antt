@@ -23,7 +23,7 @@ use Rattle.sem_caps.specs.CapStore.{CapStore}
 use Rattle.sem_vpe.specs.VpeTable.{VpeTable}
 use Rattle.sem_machine.specs.Sides.{Side, parked, installed}
 use Rattle.sem_machine.specs.Sides
-use Rattle.sem_machine.specs.Steps.{Step, first_code, plain, asking, granting}
+use Rattle.sem_machine.specs.Steps.{Step, first_code, unshown, asking, granting}
 use Rattle.sem_machine.specs.Asks.{is_obtain_wait, ask_refused}
 use Rattle.sem_machine.specs.Upcalls.{source, source_tests, given, given_kind, given_here, child_given, obtain_consent, ask_decided}
 use Rattle.sem_machine.specs.Stores.{installing, with_caps, with_parks, with_vpes}
@@ -32,7 +32,7 @@ use Rattle.sem_obtain.specs.Asking.{is_unawaited, answer_to, child_sent}
 
 -- an ask that is dropped
 pub decided-dropped : (T : Setup) (i v : ℕ) (place : PlaceName) (target : Target) (s : Side) → answer_to T i v s.parks place ≡ Dropped →
-    ask_decided T i v (ObtainAsk place target) s ≡ asking place.vpe Dropped (plain s)
+    ask_decided T i v (ObtainAsk place target) s ≡ asking place.vpe Dropped (unshown s)
 decided-dropped T i v place target s = from (is_unawaited T i s.parks place) (denies T v place.vpe) _ _ _
   where
     from : (unawaited denied : Bool) (d n y : Step) → (if unawaited then Dropped else if denied then No else Yes) ≡ Dropped →
@@ -43,7 +43,7 @@ decided-dropped T i v place target s = from (is_unawaited T i s.parks place) (de
 
 -- one that is denied
 pub decided-denied : (T : Setup) (i v : ℕ) (place : PlaceName) (target : Target) (s : Side) → answer_to T i v s.parks place ≡ No →
-    ask_decided T i v (ObtainAsk place target) s ≡ asking place.vpe No (plain (ask_refused T i Refused (ObtainAsk place target) s))
+    ask_decided T i v (ObtainAsk place target) s ≡ asking place.vpe No (unshown (ask_refused T i Refused (ObtainAsk place target) s))
 decided-denied T i v place target s = from (is_unawaited T i s.parks place) (denies T v place.vpe) _ _ _
   where
     from : (unawaited denied : Bool) (d n y : Step) → (if unawaited then Dropped else if denied then No else Yes) ≡ No →
@@ -76,7 +76,7 @@ consented-awaited T i v park place is here =
 -- the first test that holds
 pub consent-refused : (T : Setup) (i v : ℕ) (place : PlaceName) (target : Target) (s : Side) (code : Code) →
     Some code ≡ first_code (source_tests target (source T s v target)) →
-    obtain_consent T i v place target s ≡ plain (ask_refused T i code (ObtainAsk place target) s)
+    obtain_consent T i v place target s ≡ unshown (ask_refused T i code (ObtainAsk place target) s)
 consent-refused T i v place target s code first = unless-first (source_tests target (source T s v target)) _ _ ∙ rw (← first) refl
 
 -- no test holds
@@ -94,8 +94,8 @@ given-kind (OfferTarget service index) asker p kind = sym kind
 -- the child is given
 pub child-given : (T : Setup) (i : ℕ) (place : PlaceName) (target : Target) (s : Side) (p : Capability) (k : KeyName) (o : Object) →
     k ≡ keyed place (given_kind target p) → o ≡ given target place.vpe p →
-    granting p.key k (plain (child_sent T i p.key k o s)) ≡ child_given T i place target s p
-child-given T i place target s p k o key object = λ j. granting p.key (key j) (plain (child_sent T i p.key (key j) (object j) s))
+    granting p.key k (unshown (child_sent T i p.key k o s)) ≡ child_given T i place target s p
+child-given T i place target s p k o key object = λ j. granting p.key (key j) (unshown (child_sent T i p.key (key j) (object j) s))
 
 -- the child of a VPE of this kernel
 pub child-here : (T : Setup) (i : ℕ) (parent key : KeyName) (object : Object) (s : Side) → kernel_of T key.vpe ≡ i →

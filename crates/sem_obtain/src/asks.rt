@@ -6,7 +6,7 @@ ghost use Rattle.sem_msg.specs.Outboxes.{HasBoxes};
 ghost use Rattle.sem_vpe.specs.VpeTable.{AreOurs};
 ghost use Rattle.sem_machine.specs.Asks.{target_vpe as target_vpe_spec};
 ghost use Rattle.sem_machine.specs.Sides.{Side, no_side};
-ghost use Rattle.sem_machine.specs.Steps.{first_code, plain};
+ghost use Rattle.sem_machine.specs.Steps.{first_code, unshown};
 ghost use Rattle.sem_machine.specs.Calls.{ask_made, destination_tests};
 ghost use Rattle.sem_machine.specs.Stores.{with_vpes, with_vpes_parks_outs};
 
@@ -47,7 +47,7 @@ pub fn make_ask(
     requires boxes { HasBoxes setup.now outs.old }
     requires spare { 0 < outs.old.spare }
     ensures row { (s : Side) →
-        plain (with_vpes_parks_outs vpes.new.rows park.new outs.new.boxes s)
+        unshown (with_vpes_parks_outs vpes.new.rows park.new outs.new.boxes s)
         ≡ ask_made setup.now kernel vpe dst target
         (with_vpes_parks_outs vpes.old.rows park.old outs.old.boxes s) }
     ensures ours { vpes.new.ours ≡ vpes.old.ours }

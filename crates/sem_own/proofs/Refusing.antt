@@ -19,7 +19,7 @@ use Rattle.sem_machine.specs.Sides.{Side, row, own, slot, cap_in, is_marked}
 use Rattle.sem_machine.specs.Steps.{first_code}
 use Rattle.sem_machine.proofs.FirstCodes.{unless-first, none-at}
 use Rattle.sem_machine.specs.Calls.{derive_tests, derive_row, gate_tests, gate_row, child_made, narrowed, object_passes, is_of, is_wider, exceeds_slots}
-use Rattle.sem_own.specs.Holding.{HasChildRoom}
+use Rattle.sem_own.specs.Holding.{HasRoomForChild}
 
 -- a row that is not refused, on a capability that is held
 pub derive-done : (T : Setup) (s : Side) (v src dst off len rights : ℕ) (p : Capability) → None ≡ first_code (derive_tests s v src dst off len rights) →
@@ -50,7 +50,7 @@ gate-number s v src dst credits none =
     ) ∷ (is_taken (slot s v dst), Occupied) ∷ []) (nat_le 4096 (row s v).next_number) Numbers [] (sym none))
 
 -- the capability at a selector has that key, and there is room for a child of it
-pub child-room : (caps : CapStore) (s : Side) (state : Slot) (p : Capability) → s.caps ≡ caps.caps → Some p ≡ cap_in s state → HasChildRoom caps state →
+pub child-room : (caps : CapStore) (s : Side) (state : Slot) (p : Capability) → s.caps ≡ caps.caps → Some p ≡ cap_in s state → HasRoomForChild caps state →
     caps.child_room ≡ Some p.key
 child-room caps s Free p same held room = absurd cc
 child-room caps s Promised p same held room = absurd cc

@@ -12,7 +12,7 @@ IsNextFree T caps vpes v = (kind : Kind) →
     cap_of caps.caps (record { pe = pe_of T v; vpe = v; kind = kind; number = (row vpes.rows v).next_number }) ≡ None
 
 -- there is room for one more child of the capability in the slot
-abbrev pub HasChildRoom : CapStore → Slot → Type 0
-HasChildRoom caps Free = Unit {0}
-HasChildRoom caps (Held k) = caps.child_room ≡ held_key caps.caps (Some k)
-HasChildRoom caps Promised = Unit {0}
+abbrev pub HasRoomForChild : CapStore → Slot → Type 0
+HasRoomForChild caps Free = Unit {0}
+HasRoomForChild caps (Held k) = caps.child_room ≡ held_key caps.caps (Some k)
+HasRoomForChild caps Promised = Unit {0}

@@ -7,7 +7,7 @@ ghost use Rattle.sem_machine.specs.Sides.{Side};
 ghost use Rattle.sem_machine.specs.Calls.{child_made, derive_row, gate_row};
 ghost use Rattle.sem_machine.specs.Calls.{narrowed as narrowed_spec};
 ghost use Rattle.sem_machine.specs.Stores.{owning};
-ghost use Rattle.sem_own.specs.Holding.{IsNextFree, HasChildRoom};
+ghost use Rattle.sem_own.specs.Holding.{IsNextFree, HasRoomForChild};
 
 use crate::refusals::{derive_refusal, gate_refusal};
 use sem_caps::Caps;
@@ -36,7 +36,7 @@ pub fn derive_call(
     requires declared { is_declared setup.now vpe ≡ true }
     requires ours { IsOurs vpes.old vpe }
     requires free { IsNextFree setup.now caps.old vpes.old vpe }
-    requires child_room { HasChildRoom caps.old (slot vpes.old.rows vpe src) }
+    requires child_room { HasRoomForChild caps.old (slot vpes.old.rows vpe src) }
     requires spare { 0 < caps.old.spare }
     ensures row { (s : Side) →
         record { side = owning caps.new.caps vpes.new.rows s; outcome = result }
@@ -70,7 +70,7 @@ pub fn gate_call(
     requires declared { is_declared setup.now vpe ≡ true }
     requires ours { IsOurs vpes.old vpe }
     requires free { IsNextFree setup.now caps.old vpes.old vpe }
-    requires child_room { HasChildRoom caps.old (slot vpes.old.rows vpe src) }
+    requires child_room { HasRoomForChild caps.old (slot vpes.old.rows vpe src) }
     requires spare { 0 < caps.old.spare }
     ensures row { (s : Side) →
         record { side = owning caps.new.caps vpes.new.rows s; outcome = result }

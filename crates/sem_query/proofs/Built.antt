@@ -10,7 +10,7 @@ use Rattle.sem_machine.specs.Schedules.{IsSchedule, world_after}
 use Rattle.sem_safety.proofs.GoingOn.{run-append, run-prefix}
 use Rattle.sem_kernel.specs.Worlds.{WorldValue}
 use Rattle.sem_query.specs.Lives.{KeyLife}
-use Rattle.sem_query.specs.Building.{life_so_far, followed, IsNext, IsFollowed}
+use Rattle.sem_query.specs.Building.{life_so_far, followed, IsNextEntry, IsFollowed}
 use Rattle.sem_query.proofs.Noting.{followed-is}
 
 -- the world after some entries, with its setup
@@ -46,7 +46,7 @@ module _ (T : Setup) (valid : IsSetup T) (J : List Entry) (runs : IsSchedule T J
       ∙ ap (λ K. map (life_so_far T K) ks) (sym one-more)))))
 
   -- the entry is the next one
-  pub next-entry : (now : WorldValue) → now ≡ world_at T (take place J) → IsNext T now.world e
+  pub next-entry : (now : WorldValue) → now ≡ world_at T (take place J) → IsNextEntry T now.world e
   next-entry now is = record {
     before = take place J;
     world = ap (λ (w : WorldValue). w.world) is;

@@ -34,11 +34,11 @@ use Rattle.sem_query.specs.declared.holder.Holder.{Holder}
 use Rattle.sem_query.specs.declared.holder.Holder.TheVariants.{Unmarked, Way, No}
 use Rattle.sem_query.specs.declared.sighting.Sighting.{Sighting}
 use Rattle.sem_query.specs.Whereabouts.{brings, held_as, held_with, unheld, is_coming, whereabouts, whereabouts_after, Passes}
-use Rattle.sem_query.specs.Changes.{is_revoking, grants_key, seen_at_home, IsRootOf, MayChange}
+use Rattle.sem_query.specs.Changes.{may_revoke, grants_key, seen_at_home, IsRootOf, MayChange}
 use Rattle.sem_query.specs.Changes.IsRootOf.{of_cut, of_request, of_end}
 use Rattle.sem_query.specs.Changes.MayChange.{by_grant, by_message, by_resume, by_end, by_revoking}
-use Rattle.sem_query.specs.Building.{brought_in, brought_by, requested, resumed, seen_granted}
-use Rattle.sem_query.specs.Sightings.{is_key, is_vpe, is_root, moves_at_home, may_move, IsReadied}
+use Rattle.sem_query.specs.Building.{brought_in, brought_by, requested, resumed_vpe, seen_granted}
+use Rattle.sem_query.specs.Sightings.{is_that_key, is_that_vpe, is_root, moves_at_home, may_move, IsReadied}
 use Rattle.sem_query.proofs.AtHome.{at-home}
 use Rattle.sem_query.proofs.Changing.{changes}
 use Rattle.sem_query.proofs.Passing.{passes}
@@ -102,19 +102,19 @@ or-cases : (a b : Bool) → (a || b) ≡ true → (a ≡ true) ⊎ (b ≡ true)
 or-cases true b is = inl refl
 or-cases false b is = inr is
 
-is_key-from : (k : KeyName) (o : Option KeyName) → o ≡ Some k → is_key k o ≡ true
+is_key-from : (k : KeyName) (o : Option KeyName) → o ≡ Some k → is_that_key k o ≡ true
 is_key-from k (Some q) is = key_eq-from q k (same_Some q k is)
 is_key-from k None is = absurd cc
 
-is_key-true : (k : KeyName) (o : Option KeyName) → is_key k o ≡ true → o ≡ Some k
+is_key-true : (k : KeyName) (o : Option KeyName) → is_that_key k o ≡ true → o ≡ Some k
 is_key-true k (Some q) is = ap Some (key_eq-true q k is)
 is_key-true k None is = absurd cc
 
-is_vpe-from : (v : ℕ) (o : Option ℕ) → o ≡ Some v → is_vpe v o ≡ true
+is_vpe-from : (v : ℕ) (o : Option ℕ) → o ≡ Some v → is_that_vpe v o ≡ true
 is_vpe-from v (Some w) is = eq-eqb w v (same_Some w v is)
 is_vpe-from v None is = absurd cc
 
-is_vpe-true : (v : ℕ) (o : Option ℕ) → is_vpe v o ≡ true → o ≡ Some v
+is_vpe-true : (v : ℕ) (o : Option ℕ) → is_that_vpe v o ≡ true → o ≡ Some v
 is_vpe-true v (Some w) is = ap Some (eqb-true w v is)
 is_vpe-true v None is = absurd cc
 
@@ -159,27 +159,27 @@ module _ (T : Setup) (W : World) (e : Entry) (k : KeyName) where
   ready = is_ready_with k (parked s k.vpe)
 
   abbrev going_on : Bool
-  going_on = is_vpe k.vpe (resumed e.event.act) && ready
+  going_on = is_that_vpe k.vpe (resumed_vpe e.event.act) && ready
 
   abbrev revoked : Bool
   revoked = (is_root k e && ready) || is_some (cap s k)
 
   abbrev brought_it : Bool
-  brought_it = is_key k (brought_by e.event.act e.detail)
+  brought_it = is_that_key k (brought_by e.event.act e.detail)
 
   at-home-moves : owner_of T k ≡ i → moves_at_home k s e ≡ true → may_move T W e k ≡ true
   at-home-moves home is =
       or-right brought_it ((owner_of T k == i) && moves_at_home k s e) (and_from (owner_of T k == i) (moves_at_home k s e) (eq-eqb (owner_of T k) i home) is)
 
   rooted : IsRootOf e k → is_root k e ≡ true
-  rooted (of_cut cuts) = or-left (is_key k e.cut) _ (is_key-from k e.cut cuts)
+  rooted (of_cut cuts) = or-left (is_that_key k e.cut) _ (is_key-from k e.cut cuts)
   rooted (of_request from j act detail) =
-      or-right (is_key k e.cut) _
-      (or-left (is_key k (requested e.event.act e.detail)) _ (is_key-from k (requested e.event.act e.detail) (ap (λ a. requested a e.detail) act
+      or-right (is_that_key k e.cut) _
+      (or-left (is_that_key k (requested e.event.act e.detail)) _ (is_key-from k (requested e.event.act e.detail) (ap (λ a. requested a e.detail) act
       ∙ ap (requested Handle) detail)))
   rooted (of_end over) =
-      or-right (is_key k e.cut) _
-      (or-right (is_key k (requested e.event.act e.detail)) _ (is_vpe-from k.vpe (ended_by e.event.act e.detail) (ends-by k.vpe e.event.act e.detail over)))
+      or-right (is_that_key k e.cut) _
+      (or-right (is_that_key k (requested e.event.act e.detail)) _ (is_vpe-from k.vpe (ended_by e.event.act e.detail) (ends-by k.vpe e.event.act e.detail over)))
 
   -- a cause by which it may change, but for a grant, is seen
   pub moves : MayChange T W e k → (grants_key k e ≡ true) ⊎ (may_move T W e k ≡ true)
@@ -189,18 +189,18 @@ module _ (T : Setup) (W : World) (e : Entry) (k : KeyName) where
       ∙ (ap (brought_by Handle) detail ∙ brought k m bringing))))
   moves (by_resume home act is) =
       inr (at-home-moves home
-      (or-left going_on _ (and_from (is_vpe k.vpe (resumed e.event.act)) ready (is_vpe-from k.vpe (resumed e.event.act) (ap resumed act)) is)))
+      (or-left going_on _ (and_from (is_that_vpe k.vpe (resumed_vpe e.event.act)) ready (is_vpe-from k.vpe (resumed_vpe e.event.act) (ap resumed_vpe act)) is)))
   moves (by_end home loud root is) =
       inr (at-home-moves home
-      (or-right going_on _ (and_from (is_revoking e) revoked loud (or-left (is_root k e && ready) _ (and_from (is_root k e) ready (rooted root) is)))))
+      (or-right going_on _ (and_from (may_revoke e) revoked loud (or-left (is_root k e && ready) _ (and_from (is_root k e) ready (rooted root) is)))))
   moves (by_revoking home loud held) =
-      inr (at-home-moves home (or-right going_on _ (and_from (is_revoking e) revoked loud (or-right (is_root k e && ready) _ (is-some (cap s k) held)))))
+      inr (at-home-moves home (or-right going_on _ (and_from (may_revoke e) revoked loud (or-right (is_root k e && ready) _ (is-some (cap s k) held)))))
 
   from-brought : (a : Act) (d : Detail) → e.event.act ≡ a → e.detail ≡ d → brought_by a d ≡ Some k → MayChange T W e k
   from-brought Handle (Carried from m) act detail is = by_message from m act detail (brings-it k m is)
   from-brought a d act detail is = absurd cc
 
-  from-resumed : (a : Act) → e.event.act ≡ a → resumed a ≡ Some k.vpe → owner_of T k ≡ i → ready ≡ true → MayChange T W e k
+  from-resumed : (a : Act) → e.event.act ≡ a → resumed_vpe a ≡ Some k.vpe → owner_of T k ≡ i → ready ≡ true → MayChange T W e k
   from-resumed (Resume v) act is home is_ready = by_resume home (act ∙ ap Resume (same_Some v k.vpe is)) is_ready
   from-resumed a act is home is_ready = absurd cc
 
@@ -210,9 +210,9 @@ module _ (T : Setup) (W : World) (e : Entry) (k : KeyName) where
   from-requested a d act detail is = absurd cc
 
   from-root : is_root k e ≡ true → IsRootOf e k
-  from-root is = elim (or-cases (is_key k e.cut) _ is) [
+  from-root is = elim (or-cases (is_that_key k e.cut) _ is) [
     | inl cuts ↦ of_cut (is_key-true k e.cut cuts)
-    | inr more ↦ elim (or-cases (is_key k (requested e.event.act e.detail)) _ more) [
+    | inr more ↦ elim (or-cases (is_that_key k (requested e.event.act e.detail)) _ more) [
       | inl request ↦ from-requested e.event.act e.detail refl refl (is_key-true k (requested e.event.act e.detail) request)
       | inr over ↦ of_end (by-ends k.vpe e.event.act e.detail (is_vpe-true k.vpe (ended_by e.event.act e.detail) over))
     ]
@@ -227,10 +227,10 @@ module _ (T : Setup) (W : World) (e : Entry) (k : KeyName) where
         let home : owner_of T k ≡ i = eqb-true (owner_of T k) i parts.0 in
         elim (or-cases going_on _ parts.1) [
           | inl goes ↦
-              let both = and_parts (is_vpe k.vpe (resumed e.event.act)) ready goes in
-              from-resumed e.event.act refl (is_vpe-true k.vpe (resumed e.event.act) both.0) home both.1
+              let both = and_parts (is_that_vpe k.vpe (resumed_vpe e.event.act)) ready goes in
+              from-resumed e.event.act refl (is_vpe-true k.vpe (resumed_vpe e.event.act) both.0) home both.1
           | inr revokes ↦
-              let loud = and_parts (is_revoking e) revoked revokes in
+              let loud = and_parts (may_revoke e) revoked revokes in
               elim (or-cases (is_root k e && ready) _ loud.1) [
                 | inl root ↦ let both = and_parts (is_root k e) ready root in by_end home loud.0 (from-root both.0) both.1
                 | inr held ↦ by_revoking home loud.0 (some-is (cap s k) held)

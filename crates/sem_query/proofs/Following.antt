@@ -30,13 +30,13 @@ use Rattle.sem_query.specs.declared.holder.Holder.{Holder}
 use Rattle.sem_query.specs.declared.holder.Holder.TheVariants.{Marked}
 use Rattle.sem_query.specs.Whereabouts.{held_with, held_as, unheld, is_coming, whereabouts, Passes}
 use Rattle.sem_query.specs.Whereabouts.Passes.{born_on_its_way, born_held, stays_marked}
-use Rattle.sem_query.specs.Changes.{is_revoking, revokes_by, grants_key, MayChange}
+use Rattle.sem_query.specs.Changes.{may_revoke, revokes_by, grants_key, MayChange}
 use Rattle.sem_query.specs.Changes.MayChange.{by_revoking}
 use Rattle.sem_query.specs.Lives.{KeyLife}
-use Rattle.sem_query.specs.Building.{all_noted, grant_noted, followed, returned_in, returned, moved_by, AreMoved, IsNext, IsFollowed}
+use Rattle.sem_query.specs.Building.{all_noted, grant_noted, followed, returned_in, returned, moved_by, AreMoved, IsNextEntry, IsFollowed}
 use Rattle.sem_query.specs.Reaching.{AreRevoked}
 use Rattle.sem_query.specs.declared.marked.Token.{Token}
-use Rattle.sem_query.specs.MarkedKeys.{mark_in, mark_at, AreMarked, marking, above_in, IsToken, IsIdleToken, IsSeen, IsBounded, StaysMarked, AreParted}
+use Rattle.sem_query.specs.MarkedKeys.{mark_in, mark_at, AreAllMarked, marking, above_in, IsToken, IsIdleToken, IsSeen, IsBounded, StaysMarked, AreParted}
 use Rattle.sem_query.specs.MarkedKeys.IsSeen.{idle, token}
 use Rattle.sem_query.specs.MarkedKeys.StaysMarked.{no_token, elsewhere, still_marked, still_open, of_other}
 use Rattle.sem_query.proofs.Passing.{at, is-after, passes}
@@ -82,7 +82,7 @@ held-marked o b j is =
     ap (λ (x : Option Capability). is_marked (option_map_or held_as x (unheld b))) c.1 ∙ ap (λ m. is_marked (held_with m c.0.selector)) c.2
 
 -- at the start none is
-pub none-marked : (T : Setup) → AreMarked T (start T) []
+pub none-marked : (T : Setup) → AreAllMarked T (start T) []
 none-marked T k j = (
   λ among. absurd (Contains-nil (k, j) among),
   λ is. (
@@ -158,7 +158,7 @@ module _ (T : Setup) (valid : IsSetup T) (before : List Entry) (e : Entry) (runs
         by a d act detail none = absurd cc
 
     -- where none comes back to an entry that revokes, its message is another one
-    no-token : returned e.event.act e.detail ≡ None → is_revoking e ≡ true → (from j : ℕ) → e.detail ≡ Carried from (RevokeDone j) → ⊥
+    no-token : returned e.event.act e.detail ≡ None → may_revoke e ≡ true → (from j : ℕ) → e.detail ≡ Carried from (RevokeDone j) → ⊥
     no-token none loud from j detail = by e.event.act refl (ap (λ d. returned e.event.act d) (sym detail) ∙ none) (ap (revokes_by e.event.act) (sym detail)
         ∙ loud)
       where
@@ -193,20 +193,20 @@ module _ (T : Setup) (valid : IsSetup T) (before : List Entry) (e : Entry) (runs
       away : (owner_of T k ≡ n → ⊥) → StaysSo
       away other = held-so c (ap (λ (t : Side). cap t k) (side-away T valid J runs before [] e refl k (owner_of T k) other) ∙ this.1) refl
 
-      quiet : owner_of T k ≡ n → is_revoking e ≡ false → StaysSo
+      quiet : owner_of T k ≡ n → may_revoke e ≡ false → StaysSo
       quiet home still = let d = held-on T valid J runs before [] e refl k c this.1 home still in held-so d.0 d.1 d.2.mark
 
       -- it stays, if no token comes back to a job that marks one
       idle-stays : IsIdleToken T W e → StaysSo
       idle-stays none = elim (cases_eq (owner_of T k) n) [
         | inr other ↦ away other
-        | inl home ↦ elim (cases_Bool (is_revoking e)) [
+        | inl home ↦ elim (cases_Bool (may_revoke e)) [
           | inr still ↦ quiet home still
           | inl loud ↦ by home loud (returned e.event.act e.detail) refl
         ]
       ]
         where
-          by : owner_of T k ≡ n → is_revoking e ≡ true → (o : Option ℕ) → returned e.event.act e.detail ≡ o → StaysSo
+          by : owner_of T k ≡ n → may_revoke e ≡ true → (o : Option ℕ) → returned e.event.act e.detail ≡ o → StaysSo
           by home loud None is = let d = stays-held T valid J runs before [] e refl (no-token is loud) k home loud c j this.1 this.2 in held-so d.0 d.1 d.2.mark
           by home loud (Some i) is =
               let back = returned-is i is in
@@ -286,7 +286,7 @@ module _ (T : Setup) (valid : IsSetup T) (before : List Entry) (e : Entry) (runs
 
   -- The keys that were listed, what is reached, the token, and the marked keys before the entry.
   module _ (reached : List KeyName) (are : AreRevoked s.caps e reached) (o : Option Token) (seen : IsSeen T W e o) (marked kept : List (KeyName × ℕ))
-      (gone : List KeyName) (M : AreMarked T W marked) (P : AreParted T V e o marked kept gone) where
+      (gone : List KeyName) (M : AreAllMarked T W marked) (P : AreParted T V e o marked kept gone) where
     abbrev first : List KeyName
     first = moved_by T W e reached
 
@@ -328,7 +328,7 @@ module _ (T : Setup) (valid : IsSetup T) (before : List Entry) (e : Entry) (runs
       ]
     ]
       where
-        by : owner_of T k ≡ n → is_revoking e ≡ true → (c : Capability) → cap (side W (owner_of T k)) k ≡ Some c → (m : Option ℕ) → c.mark ≡ m → later-is k
+        by : owner_of T k ≡ n → may_revoke e ≡ true → (c : Capability) → cap (side W (owner_of T k)) k ≡ Some c → (m : Option ℕ) → c.mark ≡ m → later-is k
         by home loud c held None none = then k (spared T valid J runs before [] e refl k home loud c held none (λ (a, root, is). (
             absent (Contains-append_left first gone k
             (third T W e (low k) reached k loud (revoked-four T W e (low k) reached k ((are loud k).1 (a, root, is))))))))
@@ -349,7 +349,7 @@ module _ (T : Setup) (valid : IsSetup T) (before : List Entry) (e : Entry) (runs
     new = flat_map (marking T V) (first ++ gone)
 
     -- what is marked after it
-    pub marked-are : AreMarked T V (kept ++ new)
+    pub marked-are : AreAllMarked T V (kept ++ new)
     marked-are k j = (only, all)
       where
         only : Contains (kept ++ new) (k, j) → mark_at T V k ≡ Some j
@@ -382,17 +382,17 @@ module _ (T : Setup) (valid : IsSetup T) (before : List Entry) (e : Entry) (runs
         ]
 
 -- The same, as the code goes through it: V is the world after the entry.
-module _ (T : Setup) (valid : IsSetup T) (W : World) (e : Entry) (next : IsNext T W e) (reached : List KeyName)
+module _ (T : Setup) (valid : IsSetup T) (W : World) (e : Entry) (next : IsNextEntry T W e) (reached : List KeyName)
     (are : AreRevoked (side W e.event.kernel).caps e reached) (o : Option Token) (seen : IsSeen T W e o) (marked kept : List (KeyName × ℕ))
-    (gone : List KeyName) (M : AreMarked T W marked) (V : World) (later : V ≡ after T W e.event) (P : AreParted T V e o marked kept gone)
+    (gone : List KeyName) (M : AreAllMarked T W marked) (V : World) (later : V ≡ after T W e.event) (P : AreParted T V e o marked kept gone)
     (first moved : List KeyName) (listed : first ≡ moved_by T W e reached) (all : moved ≡ first ++ gone) where
   abbrev Both : World → Type 0
   Both U = AreMoved T U e (moved_by T U e reached ++ gone)
-      × AreMarked T (after T U e.event) (kept ++ flat_map (marking T (after T U e.event)) (moved_by T U e reached ++ gone))
+      × AreAllMarked T (after T U e.event) (kept ++ flat_map (marking T (after T U e.event)) (moved_by T U e reached ++ gone))
 
   both : Both W
   both =
-      subst (λ (U : World). AreRevoked (side U e.event.kernel).caps e reached → IsSeen T U e o → AreMarked T U marked →
+      subst (λ (U : World). AreRevoked (side U e.event.kernel).caps e reached → IsSeen T U e o → AreAllMarked T U marked →
       AreParted T (after T U e.event) e o marked kept gone → Both U) (sym next.world)
       (λ are' seen' M' P'. (
         moved-are T valid next.before e next.runs reached are' o seen' marked kept gone M' P',
@@ -406,10 +406,10 @@ module _ (T : Setup) (valid : IsSetup T) (W : World) (e : Entry) (next : IsNext 
   pub follows-moved : AreMoved T W e moved
   follows-moved = subst (AreMoved T W e) (sym moved-is) both.0
 
-  pub follows-marked : (now : List (KeyName × ℕ)) → now ≡ kept ++ flat_map (marking T V) moved → AreMarked T V now
+  pub follows-marked : (now : List (KeyName × ℕ)) → now ≡ kept ++ flat_map (marking T V) moved → AreAllMarked T V now
   follows-marked now is =
-      subst (λ (U : World). AreMarked T U now) (sym later)
-      (subst (AreMarked T (after T W e.event)) (sym (is
+      subst (λ (U : World). AreAllMarked T U now) (sym later)
+      (subst (AreAllMarked T (after T W e.event)) (sym (is
       ∙ (ap (λ (U : World). kept ++ flat_map (marking T U) moved) later ∙ ap (λ ks. kept ++ flat_map (marking T (after T W e.event)) ks) moved-is))) both.1)
 
   pub follows-lives : (n : ℕ) (old noted done : List KeyLife) → noted ≡ all_noted T V n moved old → done ≡ grant_noted T V n e.grant noted →

@@ -26,11 +26,11 @@ use Rattle.sem_machine.specs.Sides.{Side, cap, parked}
 use Rattle.sem_machine.specs.Machine.{World, side}
 use Rattle.sem_grants.specs.Ending.{ended_by}
 use Rattle.sem_query.specs.Whereabouts.{brings}
-use Rattle.sem_query.specs.Changes.{is_revoking, grants_key, IsRootOf, MayChange}
+use Rattle.sem_query.specs.Changes.{may_revoke, grants_key, IsRootOf, MayChange}
 use Rattle.sem_query.specs.Changes.IsRootOf.{of_cut, of_request, of_end}
 use Rattle.sem_query.specs.Changes.MayChange.{by_grant, by_message, by_resume, by_end, by_revoking}
 use Rattle.sem_query.proofs.Rooting.{in-option, from-option, ends-by, by-ends, from-requested}
-use Rattle.sem_query.specs.Building.{brought_in, brought_by, ready_key, ready_of, ready_among, ready_by, resumed, requested, revoked_by, moved_by}
+use Rattle.sem_query.specs.Building.{brought_in, brought_by, ready_key, ready_of, ready_among, ready_by, resumed_vpe, requested, revoked_by, moved_by}
 
 -- Messages that bring a key.
 
@@ -123,10 +123,10 @@ module _ (T : Setup) (W : World) (e : Entry) (low : (i v : ℕ) (p : Parked) →
     brought_keys = option_to_list (brought_by e.event.act e.detail)
 
     abbrev going_on : List KeyName
-    going_on = ready_by T i s (resumed e.event.act)
+    going_on = ready_by T i s (resumed_vpe e.event.act)
 
     abbrev revoked : List KeyName
-    revoked = if is_revoking e then revoked_by T i s e reached else []
+    revoked = if may_revoke e then revoked_by T i s e reached else []
 
     first : Contains brought_keys k → Contains (moved_by T W e reached) k
     first among = Contains-append_left brought_keys (going_on ++ revoked) k among
@@ -134,10 +134,10 @@ module _ (T : Setup) (W : World) (e : Entry) (low : (i v : ℕ) (p : Parked) →
     second : Contains going_on k → Contains (moved_by T W e reached) k
     second among = Contains-append_right brought_keys (going_on ++ revoked) k (Contains-append_left going_on revoked k among)
 
-    pub third : is_revoking e ≡ true → Contains (revoked_by T i s e reached) k → Contains (moved_by T W e reached) k
+    pub third : may_revoke e ≡ true → Contains (revoked_by T i s e reached) k → Contains (moved_by T W e reached) k
     third loud among =
         Contains-append_right brought_keys (going_on ++ revoked) k
-        (Contains-append_right going_on revoked k (subst (λ ks. Contains ks k) (sym (cond-true (is_revoking e) (revoked_by T i s e reached) [] loud)) among))
+        (Contains-append_right going_on revoked k (subst (λ ks. Contains ks k) (sym (cond-true (may_revoke e) (revoked_by T i s e reached) [] loud)) among))
 
     abbrev at_cut : List KeyName
     at_cut = ready_among T i s e.cut
@@ -166,12 +166,12 @@ module _ (T : Setup) (W : World) (e : Entry) (low : (i v : ℕ) (p : Parked) →
 
     -- what may change is listed, unless it is held and not reached
     pub lists : MayChange T W e k →
-        (grants_key k e ≡ true) ⊎ (Contains (moved_by T W e reached) k ⊎ ((owner_of T k ≡ i) × (is_revoking e ≡ true) × IsSome (cap s k)))
+        (grants_key k e ≡ true) ⊎ (Contains (moved_by T W e reached) k ⊎ ((owner_of T k ≡ i) × (may_revoke e ≡ true) × IsSome (cap s k)))
     lists (by_grant granted) = inl granted
     lists (by_message from m act detail bringing) =
         inr (inl (first (in-option (brought_by e.event.act e.detail) k (ap (λ a. brought_by a e.detail) act
         ∙ (ap (brought_by Handle) detail ∙ brought k m bringing)))))
-    lists (by_resume home act ready) = inr (inl (second (in-by (resumed e.event.act) (ap resumed act) home ready)))
+    lists (by_resume home act ready) = inr (inl (second (in-by (resumed_vpe e.event.act) (ap resumed_vpe act) home ready)))
     lists (by_end home loud root ready) = inr (inl (third loud (from-root root)))
       where
         from-root : IsRootOf e k → Contains (revoked_by T i s e reached) k
@@ -189,11 +189,11 @@ module _ (T : Setup) (W : World) (e : Entry) (low : (i v : ℕ) (p : Parked) →
         by d detail is = absurd cc
     from-brought a d act detail is = absurd cc
 
-    from-resumed : (a : Act) → e.event.act ≡ a → resumed a ≡ Some k.vpe → owner_of T k ≡ i → is_ready_with k (parked s k.vpe) ≡ true → MayChange T W e k
+    from-resumed : (a : Act) → e.event.act ≡ a → resumed_vpe a ≡ Some k.vpe → owner_of T k ≡ i → is_ready_with k (parked s k.vpe) ≡ true → MayChange T W e k
     from-resumed (Resume v) act is home ready = by_resume home (act ∙ ap Resume (same_Some v k.vpe is)) ready
     from-resumed a act is home ready = absurd cc
 
-    from-revoked : is_revoking e ≡ true → (Contains reached k → (owner_of T k ≡ i) × IsSome (cap s k)) → Contains (revoked_by T i s e reached) k →
+    from-revoked : may_revoke e ≡ true → (Contains reached k → (owner_of T k ≡ i) × IsSome (cap s k)) → Contains (revoked_by T i s e reached) k →
         MayChange T W e k
     from-revoked loud held among = elim (Contains-append_cases (at_cut ++ at_request ++ at_end) reached k among) [
       | inr here ↦ let is = held here in by_revoking is.0 loud is.1
@@ -208,14 +208,14 @@ module _ (T : Setup) (W : World) (e : Entry) (low : (i v : ℕ) (p : Parked) →
     ]
 
     -- what is listed may change, where what is reached is held by its owner
-    pub listed : (is_revoking e ≡ true → Contains reached k → (owner_of T k ≡ i) × IsSome (cap s k)) → Contains (moved_by T W e reached) k → MayChange T W e k
+    pub listed : (may_revoke e ≡ true → Contains reached k → (owner_of T k ≡ i) × IsSome (cap s k)) → Contains (moved_by T W e reached) k → MayChange T W e k
     listed held among = elim (Contains-append_cases brought_keys (going_on ++ revoked) k among) [
       | inl brings' ↦ from-brought e.event.act e.detail refl refl (from-option (brought_by e.event.act e.detail) k brings')
       | inr here ↦ elim (Contains-append_cases going_on revoked k here) [
-        | inl goes ↦ let is = from-by (resumed e.event.act) goes in from-resumed e.event.act refl is.0 is.1 is.2
-        | inr loud ↦ elim (cases_Bool (is_revoking e)) [
-          | inl is ↦ from-revoked is (held is) (subst (λ ks. Contains ks k) (cond-true (is_revoking e) (revoked_by T i s e reached) [] is) loud)
-          | inr not ↦ absurd (Contains-nil k (subst (λ ks. Contains ks k) (cond-false (is_revoking e) (revoked_by T i s e reached) [] not) loud))
+        | inl goes ↦ let is = from-by (resumed_vpe e.event.act) goes in from-resumed e.event.act refl is.0 is.1 is.2
+        | inr loud ↦ elim (cases_Bool (may_revoke e)) [
+          | inl is ↦ from-revoked is (held is) (subst (λ ks. Contains ks k) (cond-true (may_revoke e) (revoked_by T i s e reached) [] is) loud)
+          | inr not ↦ absurd (Contains-nil k (subst (λ ks. Contains ks k) (cond-false (may_revoke e) (revoked_by T i s e reached) [] not) loud))
         ]
       ]
     ]

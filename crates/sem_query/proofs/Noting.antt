@@ -22,7 +22,7 @@ use Rattle.sem_query.specs.declared.holder.Holder.TheVariants.{Marked, Unmarked,
 use Rattle.sem_query.specs.Whereabouts.{held_as, unheld, is_coming, whereabouts, Passes}
 use Rattle.sem_query.specs.Whereabouts.Passes.{born_on_its_way, born_held, stays_nowhere, stays_on_its_way, stays_unmarked, stays_marked}
 use Rattle.sem_query.specs.Changes.{grants_key, MayChange, seen_at_home}
-use Rattle.sem_query.specs.Lives.{KeyLife, noted, life_granted, life, told}
+use Rattle.sem_query.specs.Lives.{KeyLife, noted, life_granted, life, told_holder}
 use Rattle.sem_query.specs.Building.{begun_life, life_so_far, noted_now, noted_of, seen_granted, grant_noted, followed, AreMoved}
 use Rattle.sem_query.proofs.AtHome.{at-home}
 use Rattle.sem_query.proofs.Passing.{at, with-e, is-after, passes}
@@ -51,14 +51,14 @@ note-is n a b l is = ap (λ x. noted n x b l) (stands-told (n + 1) a l (stands-l
 note-again : (n : ℕ) (b : Holder) (l : KeyLife) → Stands (n + 1) b l → noted_now n b l ≡ l
 note-again n b l is = ap (λ x. noted n x b l) (stands-told (n + 1) b l is) ∙ stands-same (n + 1) n b l is
 
-unborn-told : (n : ℕ) (k : KeyName) → told (n + 1) (begun_life k None) ≡ No
+unborn-told : (n : ℕ) (k : KeyName) → told_holder (n + 1) (begun_life k None) ≡ No
 unborn-told n k = cond-true (false || nat_lt 0 (n + 1)) No _ (lt-ltb 0 (n + 1) (omega arith))
 
 -- of a key that is nowhere and was never granted nothing is noted
 unborn-stays : (n : ℕ) (k : KeyName) → noted_now n No (begun_life k None) ≡ begun_life k None
 unborn-stays n k = ap (λ x. noted n x No (begun_life k None)) (unborn-told n k)
 
-granted-told : (n : ℕ) (k : KeyName) → told (n + 1) (life_granted k n) ≡ Way
+granted-told : (n : ℕ) (k : KeyName) → told_holder (n + 1) (life_granted k n) ≡ Way
 granted-told n k = by (nat_lt n (n + 1)) (lt-ltb n (n + 1) (omega arith))
   where
     by : (b : Bool) → b ≡ true → (if not b || false then No else Way) ≡ Way

@@ -15,7 +15,7 @@ use Rattle.sem_msg.specs.Lookups.{owner_of}
 use Rattle.sem_machine.specs.Machine.{World}
 use Rattle.sem_query.specs.declared.marked.Token.{Token}
 use Rattle.sem_query.specs.Building.{returned}
-use Rattle.sem_query.specs.MarkedKeys.{mark_at, is_marked_by, AreMarked, IsIdleToken, IsBounded, is_swept, StaysMarked, AreParted}
+use Rattle.sem_query.specs.MarkedKeys.{mark_at, has_mark_of, AreAllMarked, IsIdleToken, IsBounded, is_swept, StaysMarked, AreParted}
 use Rattle.sem_query.specs.MarkedKeys.StaysMarked.{no_token, elsewhere, still_marked, still_open, of_other}
 
 -- what two clauses say of a success
@@ -29,7 +29,7 @@ mark-is None j no' = absurd cc
 mark-is (Some m) j pass = ap Some (eqb-true m j pass)
 
 -- Before the entry.
-module _ (T : Setup) (W : World) (e : Entry) (marked : List (KeyName × ℕ)) (M : AreMarked T W marked) where
+module _ (T : Setup) (W : World) (e : Entry) (marked : List (KeyName × ℕ)) (M : AreAllMarked T W marked) where
   -- no token comes back
   pub idle-none : returned e.event.act e.detail ≡ None → IsIdleToken T W e
   idle-none none j k some home mark = (let clash : ◌≡◌ {A = Option ℕ} None (Some j) = sym none ∙ some in absurd cc)
@@ -55,7 +55,7 @@ module _ (T : Setup) (V : World) (e : Entry) (marked : List (KeyName × ℕ)) wh
 
   module _ (t : Token) where
     -- the job marks one still
-    pub parted-open : is_marked_by T V t.key t.job ≡ true → AreParted T V e (Some t) marked marked []
+    pub parted-open : has_mark_of T V t.key t.job ≡ true → AreParted T V e (Some t) marked marked []
     parted-open is = record {
       each = λ k j among. inl among;
       stays = λ k j among. (among, still_open t refl (mark-is (mark_at T V t.key) t.job is));
@@ -68,7 +68,7 @@ module _ (T : Setup) (V : World) (e : Entry) (marked : List (KeyName × ℕ)) wh
       swept = is_swept T V e.event.kernel only
 
       abbrev part_of : KeyName × ℕ → Bool
-      part_of p = option_map_or (λ j. p.1 == j) only (not (is_marked_by T V p.0 p.1))
+      part_of p = option_map_or (λ j. p.1 == j) only (not (has_mark_of T V p.0 p.1))
 
       stays-so : (k : KeyName) (j : ℕ) → not (swept (k, j)) ≡ true → StaysMarked T V e (Some t) k j
       stays-so k j left = elim (cases_eq (owner_of T k) e.event.kernel) [
@@ -80,8 +80,8 @@ module _ (T : Setup) (V : World) (e : Entry) (marked : List (KeyName × ℕ)) wh
         ])
       ]
         where
-          by : (o : Option ℕ) → only ≡ o → option_map_or (λ i. j == i) o (not (is_marked_by T V k j)) ≡ false → StaysMarked T V e (Some t) k j
-          by None none kept = still_marked (mark-is (mark_at T V k) j (still (is_marked_by T V k j) kept))
+          by : (o : Option ℕ) → only ≡ o → option_map_or (λ i. j == i) o (not (has_mark_of T V k j)) ≡ false → StaysMarked T V e (Some t) k j
+          by None none kept = still_marked (mark-is (mark_at T V k) j (still (has_mark_of T V k j) kept))
             where
               still : (b : Bool) → not b ≡ false → b ≡ true
               still true is = refl

@@ -17,9 +17,9 @@ use Rattle.sem_msg.specs.Lookups.{owner_of}
 use Rattle.sem_msg.specs.ParkedStates.{is_ready_with}
 use Rattle.sem_machine.specs.Sides.{Side, no_side, cap, parked}
 use Rattle.sem_machine.specs.Machine.{World, side}
-use Rattle.sem_query.specs.Changes.{is_revoking}
+use Rattle.sem_query.specs.Changes.{may_revoke}
 use Rattle.sem_grants.specs.Ending.{ended_by}
-use Rattle.sem_query.specs.Building.{brought_by, ready_key, ready_of, ready_among, ready_by, resumed, requested, revoked_by, moved_at, moved_by}
+use Rattle.sem_query.specs.Building.{brought_by, ready_key, ready_of, ready_among, ready_by, resumed_vpe, requested, revoked_by, moved_at, moved_by}
 use Rattle.sem_query.specs.Reaching.{AreRevoked, held_of}
 use Rattle.sem_query.proofs.Rooting.{reached-held}
 
@@ -60,7 +60,7 @@ nothing-moved T i s e keys none = sym (ap (λ ks. keys ++ ks) (ap (λ (t : Side)
     both false = refl
 
     nothing : moved_at T i no_side e [] ≡ []
-    nothing = ap (λ ks. ks ++ (if is_revoking e then revoked_by T i no_side e [] else [])) (nothing-by T i (resumed e.event.act)) ∙ both (is_revoking e)
+    nothing = ap (λ ks. ks ++ (if may_revoke e then revoked_by T i no_side e [] else [])) (nothing-by T i (resumed_vpe e.event.act)) ∙ both (may_revoke e)
 
 -- nothing is reached where no kernel is
 pub nothing-reached : (s : Side) (e : Entry) → s ≡ no_side → AreRevoked s.caps e []
@@ -86,17 +86,17 @@ module _ (T : Setup) (i : ℕ) (s : Side) (e : Entry) (reached old : List KeyNam
       ∙ append_assoc old (ready_keys T i s e) reached)
 
   -- all that it may move there
-  pub moved-loud : (a now : List KeyName) → is_revoking e ≡ true → a ≡ old ++ ready_by T i s (resumed e.event.act) → now ≡ a ++ revoked_by T i s e reached →
+  pub moved-loud : (a now : List KeyName) → may_revoke e ≡ true → a ≡ old ++ ready_by T i s (resumed_vpe e.event.act) → now ≡ a ++ revoked_by T i s e reached →
       now ≡ old ++ moved_at T i s e reached
   moved-loud a now loud one two = two
       ∙ (ap (λ ks. ks ++ revoked_by T i s e reached) one
-      ∙ (append_assoc old (ready_by T i s (resumed e.event.act)) (revoked_by T i s e reached)
-      ∙ ap (λ ks. old ++ (ready_by T i s (resumed e.event.act) ++ ks)) (sym (cond-true (is_revoking e) (revoked_by T i s e reached) [] loud))))
+      ∙ (append_assoc old (ready_by T i s (resumed_vpe e.event.act)) (revoked_by T i s e reached)
+      ∙ ap (λ ks. old ++ (ready_by T i s (resumed_vpe e.event.act) ++ ks)) (sym (cond-true (may_revoke e) (revoked_by T i s e reached) [] loud))))
 
-  pub moved-quiet : (now : List KeyName) → is_revoking e ≡ false → now ≡ old ++ ready_by T i s (resumed e.event.act) → now ≡ old ++ moved_at T i s e reached
+  pub moved-quiet : (now : List KeyName) → may_revoke e ≡ false → now ≡ old ++ ready_by T i s (resumed_vpe e.event.act) → now ≡ old ++ moved_at T i s e reached
   moved-quiet now quiet one = one
-      ∙ (ap (λ ks. old ++ ks) (sym (append-nil (ready_by T i s (resumed e.event.act))))
-      ∙ ap (λ ks. old ++ (ready_by T i s (resumed e.event.act) ++ ks)) (sym (cond-false (is_revoking e) (revoked_by T i s e reached) [] quiet)))
+      ∙ (ap (λ ks. old ++ ks) (sym (append-nil (ready_by T i s (resumed_vpe e.event.act))))
+      ∙ ap (λ ks. old ++ (ready_by T i s (resumed_vpe e.event.act) ++ ks)) (sym (cond-false (may_revoke e) (revoked_by T i s e reached) [] quiet)))
 
 -- all that it may move, beside what it brings
 pub moved-brought : (T : Setup) (W : World) (e : Entry) (reached a now : List KeyName) (o : Option KeyName) → o ≡ brought_by e.event.act e.detail →

@@ -19,7 +19,7 @@ use Rattle.sem_msg.specs.Rows.{VpeRow, no_vpe}
 use Rattle.sem_msg.specs.Setup.{Setup, IsSetup}
 use Rattle.sem_msg.specs.Lookups.{kernel_of}
 use Rattle.sem_machine.specs.Sides.{Side, row, parked, is_alive, call_counted, ask_taken, with_inbox}
-use Rattle.sem_machine.specs.Steps.{Step, plain}
+use Rattle.sem_machine.specs.Steps.{Step, unshown}
 use Rattle.sem_machine.specs.Calls.{call_row}
 use Rattle.sem_machine.specs.Upcalls.{ask_decided, upcall_row}
 use Rattle.sem_machine.specs.Handles.{handled}
@@ -67,7 +67,7 @@ module _ (T : Setup) (v : ℕ) where
       by : (b : Act) → a ≡ b → Steady v ⊥ n (local_step T i s b input).side
       by (Calls u) act =
           let differs : u ≡ v → ⊥ = λ same. other (act ∙ ap Calls same) in
-          option-keeps (λ (y : Step). Steady v ⊥ n y.side) (call_row T i (call_counted u s) u) (next_call T s u) (plain s)
+          option-keeps (λ (y : Step). Steady v ⊥ n y.side) (call_row T i (call_counted u s) u) (next_call T s u) (unshown s)
           (λ c there. steady-call v ⊥ n T i u c (call_counted u s) differs (counted u differs)) S
       by (Resume u) act = steady-resume v ⊥ n T u s (λ same none. none) S
       by (Upcall u) act = steady-upcall v ⊥ n T i u s S
@@ -130,7 +130,7 @@ call-or-none (x ∷ xs) v = elim (is-call x.event.act v) [
 -- an upcall answers no call
 pub upcall-silent : (T : Setup) (i u : ℕ) (s : Side) → (upcall_row T i s u).outcome.reply ≡ None
 unfolding upcall_row
-upcall-silent T i u s = option-keeps (λ (x : Step). x.outcome.reply ≡ None) (λ a. ask_decided T i u a (ask_taken u s)) (slice_get (row s u).asks 0) (plain s)
+upcall-silent T i u s = option-keeps (λ (x : Step). x.outcome.reply ≡ None) (λ a. ask_decided T i u a (ask_taken u s)) (slice_get (row s u).asks 0) (unshown s)
     (λ a there. decided-by (λ (x : Step). x.outcome.reply ≡ None) (λ w x is. is) (λ w x is. is) (λ w x is. is) T i u a (ask_taken u s)
     (record {
       nothing = refl;

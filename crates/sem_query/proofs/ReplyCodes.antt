@@ -23,7 +23,7 @@ use Rattle.sem_msg.specs.declared.state.Parked.TheVariants.{ObtainWait, ObtainRe
 use Rattle.sem_msg.specs.Setup.{Setup, IsSetup}
 use Rattle.sem_msg.specs.Lookups.{kernel_of}
 use Rattle.sem_machine.specs.Sides.{Side, cap, parked, unparked, call_counted}
-use Rattle.sem_machine.specs.Steps.{Step, plain}
+use Rattle.sem_machine.specs.Steps.{Step, unshown}
 use Rattle.sem_machine.specs.Calls.{call_row}
 use Rattle.sem_machine.specs.Resumes.{delegate_granted, delegate_resumed, resumed, resume_row}
 use Rattle.sem_machine.specs.Sound.{IsSoundCall}
@@ -97,7 +97,7 @@ resumed-small T i v (Some (Ready number)) s sound = sound (Ready number) refl
 step-small : (T : Setup) (i : ℕ) (s : Side) (a : Act) (input : Option Message) → ((v : ℕ) (p : Parked) → parked s v ≡ Some p → IsSoundCall T i v p) →
     IsSmall (local_step T i s a input).outcome.reply
 unfolding local_step resume_row
-step-small T i s (Calls v) input sound = option-keeps (λ (x : Step). IsSmall x.outcome.reply) (call_row T i (call_counted v s) v) (next_call T s v) (plain s)
+step-small T i s (Calls v) input sound = option-keeps (λ (x : Step). IsSmall x.outcome.reply) (call_row T i (call_counted v s) v) (next_call T s v) (unshown s)
     (λ c there. call-small T i v (call_counted v s) c) tt
 step-small T i s (Resume v) input sound = resumed-small T i v (parked s v) (unparked v s) (sound v)
 step-small T i s (Upcall v) input sound = subst IsSmall (sym (upcall-silent T i v s)) tt

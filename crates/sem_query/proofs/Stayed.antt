@@ -36,7 +36,7 @@ use Rattle.sem_msg.specs.Setup.{Setup, IsSetup}
 use Rattle.sem_msg.specs.Lookups.{kernel_of, owner_of}
 use Rattle.sem_msg.specs.ParkedStates.{is_ready_with}
 use Rattle.sem_machine.specs.Sides.{Side, row, slot, cap, cap_in, own, parked, call_counted, parked_as, unparked, buried, with_inbox}
-use Rattle.sem_machine.specs.Steps.{Step, plain, answer, cutting}
+use Rattle.sem_machine.specs.Steps.{Step, unshown, answer, cutting}
 use Rattle.sem_machine.specs.Asks.{asker, is_unawaited, promise_freed, refusal_sent, ask_refused, call_refused}
 use Rattle.sem_machine.specs.Calls.{own_tests, call_row}
 use Rattle.sem_machine.specs.Revokes.{begin, revoke_begun, clear_begun, waiter_left, ready_freed, request_begun, revoke_requested}
@@ -53,7 +53,7 @@ use Rattle.sem_safety.proofs.SideLayers.{run-kept}
 use Rattle.sem_revoke.proofs.OpenRows.{marks-open}
 use Rattle.sem_revoke.proofs.Rowing.{revoked_if_there}
 use Rattle.sem_query.specs.Whereabouts.{whereabouts}
-use Rattle.sem_query.specs.Changes.{revokes_call, revokes_message, is_revoking}
+use Rattle.sem_query.specs.Changes.{revokes_call, revokes_message, may_revoke}
 use Rattle.sem_query.proofs.Bearing.{IsAlike, alike-same}
 use Rattle.sem_query.proofs.BearingRows.{revokes}
 use Rattle.sem_query.proofs.Passing.{only-one, with-e, at}
@@ -157,11 +157,11 @@ module _ (xs : List Capability) (T : Setup) (i : ℕ) where
 
   call-stay : (v : ℕ) (c : Call) (t : Side) → revokes_call c ≡ true → P t → StaysSo (call_row T i t v c)
   unfolding call_row
-  call-stay v (Revoke src) t loud S = option-keeps StaysSo (λ (c : Capability). cutting c.key (plain (revoke_begun T i v c.key c.mark t))) (own t v src)
+  call-stay v (Revoke src) t loud S = option-keeps StaysSo (λ (c : Capability). cutting c.key (unshown (revoke_begun T i v c.key c.mark t))) (own t v src)
       (answer NoCap t) (λ c held. begun-stay v c.key c.mark t S (λ none. free-of xs t S c (own-among t v src c held) none)) S
   call-stay v (Clear src) t loud S =
       unless-passed StaysSo (own_tests (own t v src)) _ _ (λ code. S)
-      (λ passed. option-keeps StaysSo (λ (c : Capability). cutting c.key (plain (clear_begun T i v c.key t))) (own t v src) (answer NoCap t)
+      (λ passed. option-keeps StaysSo (λ (c : Capability). cutting c.key (unshown (clear_begun T i v c.key t))) (own t v src) (answer NoCap t)
       (λ c held. begin-stay xs T i c.key None (v ∷ []) true (parked_as v (RevokeWait t.next_job) t) S tt
       (free-of xs t S c (own-among t v src c held) (unmarked-own (own t v src) c held passed.1.0))) S)
   call-stay v Exit t loud S = ended-stay v t S
@@ -232,7 +232,7 @@ module _ (T : Setup) (valid : IsSetup T) (J : List Entry) (runs : IsSchedule T J
     unfolding local_step
     step-stays (Calls v) act loud = by (next_call T s v) loud
       where
-        by : (o : Option Call) → option_map_or revokes_call o false ≡ true → Q (option_map_or (call_row T n (call_counted v s) v) o (plain s)).side
+        by : (o : Option Call) → option_map_or revokes_call o false ≡ true → Q (option_map_or (call_row T n (call_counted v s) v) o (unshown s)).side
         by None loud' = absurd cc
         by (Some c) loud' = call-stay s.caps T n v c (call_counted v s) loud' start-stay
     step-stays Handle act loud = by s.inbox refl loud
@@ -252,7 +252,7 @@ module _ (T : Setup) (valid : IsSetup T) (J : List Entry) (runs : IsSchedule T J
     step-stays (Flush j) act loud = absurd cc
 
   -- a marked key of the kernel is held on
-  pub stays-held : (k : KeyName) → owner_of T k ≡ n → is_revoking e ≡ true → (c : Capability) (j : ℕ) → cap (side W (owner_of T k)) k ≡ Some c →
+  pub stays-held : (k : KeyName) → owner_of T k ≡ n → may_revoke e ≡ true → (c : Capability) (j : ℕ) → cap (side W (owner_of T k)) k ≡ Some c →
       c.mark ≡ Some j → (d : Capability) × (cap (side (world_after T (before ++ e ∷ [])) (owner_of T k)) k ≡ Some d) × IsAlike c d
   stays-held k home loud c j held marked =
       let was = (at T valid J runs before later e parts k).0 in
@@ -268,7 +268,7 @@ module _ (T : Setup) (valid : IsSetup T) (J : List Entry) (runs : IsSchedule T J
       (d.0, only-one k (side V (owner_of T k)).caps distinct d.0 among (d.2.kin.key ∙ key_eq-true c.key k of_c.1), d.2)
 
   -- so it stays where it is
-  pub stayed : (k : KeyName) → owner_of T k ≡ n → is_revoking e ≡ true → (c : Capability) (j : ℕ) → cap (side W (owner_of T k)) k ≡ Some c → c.mark ≡ Some j →
+  pub stayed : (k : KeyName) → owner_of T k ≡ n → may_revoke e ≡ true → (c : Capability) (j : ℕ) → cap (side W (owner_of T k)) k ≡ Some c → c.mark ≡ Some j →
       whereabouts T W k ≡ whereabouts T (world_after T (before ++ e ∷ [])) k
   stayed k home loud c j held marked =
       let d = stays-held k home loud c j held marked in

@@ -28,7 +28,7 @@ use Rattle.sem_query.specs.Whereabouts.{held_with, held_as, unheld, is_coming, w
 use Rattle.sem_query.specs.Whereabouts.IsThere.{is_held_marked, is_held_unmarked, is_on_its_way, is_nowhere}
 use Rattle.sem_query.specs.Whereabouts.Passes.{born_on_its_way, born_held, stays_nowhere}
 use Rattle.sem_query.specs.Changes.{grants_key}
-use Rattle.sem_query.specs.Lives.{KeyLife, noted, life_granted, first_life, begun, Watched, watched_first, watched_next, life_of_root, life, told}
+use Rattle.sem_query.specs.Lives.{KeyLife, noted, life_granted, first_life, begun, Watched, watched_first, watched_next, life_of_root, life, told_holder}
 use Rattle.sem_query.proofs.Passing.{granted-pair, passes}
 use Rattle.sem_query.proofs.There.{some-of, there}
 use Rattle.sem_query.proofs.Reading.{Stands, stands-told, stands-born, stands-next, before-born, told-before}
@@ -139,7 +139,7 @@ stands-on k false n _ b _ (has_life a l is) passing = has_life b (noted n a b l)
 
 -- what an option of a life tells
 abbrev pub told_if : ℕ → Option KeyLife → Holder
-told_if n o = option_map_or (told n) o No
+told_if n o = option_map_or (told_holder n) o No
 
 told-on : (k : KeyName) (g : Bool) (m n : ℕ) (a b : Holder) (o : Option KeyLife) → m ≤ n → StandsIf n a o → Passes g a b → (g ≡ true → o ≡ None) →
     told_if m (next_by k g n a b o) ≡ told_if m o

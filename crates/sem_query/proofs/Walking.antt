@@ -15,7 +15,7 @@ use Rattle.sem_key.specs.Region.{has_key, Reached}
 use Rattle.sem_key.specs.Region.Reached.{at_root, by_link}
 use Rattle.sem_key.proofs.KeyTests.{key_eq-true, has_key-from_Contains, Contains-from_has_key}
 use Rattle.sem_key.proofs.Members.{found, Contains-nil, Contains-cons_cases, Contains-head}
-use Rattle.sem_mark.specs.Walks.{is_open, children_at}
+use Rattle.sem_mark.specs.Walks.{is_unmarked_at, children_at}
 use Rattle.sem_mark.proofs.Marks.{has_key-append}
 use Rattle.sem_query.specs.Reaching.{IsReachedFrom, AreReached, Lists, has_word, HasWords}
 
@@ -58,7 +58,7 @@ module _ (p q : Capability → Bool) (sub : (c : Capability) → q c ≡ true �
 -- Keys that are listed.
 module _ (caps : List Capability) where
   -- what is open is held
-  open-held : (k : KeyName) → is_open caps k ≡ true → (c : Capability) × (cap_of caps k ≡ Some c) × (c.mark ≡ None)
+  open-held : (k : KeyName) → is_unmarked_at caps k ≡ true → (c : Capability) × (cap_of caps k ≡ Some c) × (c.mark ≡ None)
   open-held k is = by (cap_of caps k) refl is
     where
       none : (m : Option ℕ) → is_none m ≡ true → m ≡ None
@@ -110,21 +110,21 @@ module _ (caps : List Capability) where
   only-key q k among = elim (Contains-cons_cases q [] k among) [ inl same ↦ same | inr none ↦ absurd (Contains-nil k none) ]
 
   -- a key that is not open, or is listed
-  pub lists-no : (q : KeyName) (ks : List KeyName) → (is_open caps q ≡ true → Contains ks q) → Lists caps (q ∷ []) ks ks
+  pub lists-no : (q : KeyName) (ks : List KeyName) → (is_unmarked_at caps q ≡ true → Contains ks q) → Lists caps (q ∷ []) ks ks
   lists-no q ks there = record {
     behind = ([], sym (append-nil ks));
     only = λ k among. inl among;
-    all = λ k among open'. (let same = only-key q k among in subst (Contains ks) same (there (subst (λ x. is_open caps x ≡ true) (sym same) open')));
+    all = λ k among open'. (let same = only-key q k among in subst (Contains ks) same (there (subst (λ x. is_unmarked_at caps x ≡ true) (sym same) open')));
     room = omega arith;
   }
 
   -- one that is open, and not listed
-  pub lists-push : (q : KeyName) (ks : List KeyName) → is_open caps q ≡ true → has_key ks q ≡ false → Lists caps (q ∷ []) ks (ks ++ q ∷ [])
+  pub lists-push : (q : KeyName) (ks : List KeyName) → is_unmarked_at caps q ≡ true → has_key ks q ≡ false → Lists caps (q ∷ []) ks (ks ++ q ∷ [])
   lists-push q ks open' absent = record {
     behind = (q ∷ [], refl);
     only = λ k among. elim (Contains-push_cases ks q k among) [
       | inl before ↦ inl before
-      | inr same ↦ inr (subst (Contains (q ∷ [])) same (Contains-head q []), subst (λ x. is_open caps x ≡ true) same open')
+      | inr same ↦ inr (subst (Contains (q ∷ [])) same (Contains-head q []), subst (λ x. is_unmarked_at caps x ≡ true) same open')
     ];
     all = λ k among is. subst (Contains (ks ++ q ∷ [])) (only-key q k among) (Contains-push ks q);
     room =
@@ -158,9 +158,9 @@ module _ (caps : List Capability) where
   -- the roots are listed, and the children of the first keys; what is listed is reached
   pub record IsWalk (roots ks : List KeyName) (at : ℕ) : Type 0 where
     pub within : at ≤ length ks
-    pub rooted : (k : KeyName) → Contains roots k → is_open caps k ≡ true → Contains ks k
+    pub rooted : (k : KeyName) → Contains roots k → is_unmarked_at caps k ≡ true → Contains ks k
     pub only : (k : KeyName) → Contains ks k → IsReachedFrom caps roots k
-    pub closed : (p k : KeyName) → Contains (take at ks) p → Contains (children_at caps p) k → is_open caps k ≡ true → Contains ks k
+    pub closed : (p k : KeyName) → Contains (take at ks) p → Contains (children_at caps p) k → is_unmarked_at caps k ≡ true → Contains ks k
 
   pub walk-start : (roots ks : List KeyName) → Lists caps roots [] ks → IsWalk roots ks 0
   walk-start roots ks listed = record {
@@ -174,7 +174,7 @@ module _ (caps : List Capability) where
   }
 
   -- a child of what is reached is reached, where it is open
-  child-reached : (roots : List KeyName) (p k : KeyName) → IsReachedFrom caps roots p → Contains (children_at caps p) k → is_open caps k ≡ true →
+  child-reached : (roots : List KeyName) (p k : KeyName) → IsReachedFrom caps roots p → Contains (children_at caps p) k → is_unmarked_at caps k ≡ true →
       IsReachedFrom caps roots k
   child-reached roots p k (a, root, reached) child open' = by (cap_of caps p) refl child
     where
@@ -215,7 +215,7 @@ module _ (caps : List Capability) where
   pub walk-end : (roots ks : List KeyName) (at : ℕ) → IsWalk roots ks at → length ks ≤ at → AreReached caps roots ks
   walk-end roots ks at W all k = (W.only k, λ (a, root, reached). listed a root k reached)
     where
-      open-of : (q : KeyName) (c : Capability) → cap_of caps q ≡ Some c → c.mark ≡ None → is_open caps q ≡ true
+      open-of : (q : KeyName) (c : Capability) → cap_of caps q ≡ Some c → c.mark ≡ None → is_unmarked_at caps q ≡ true
       open-of q c held unmarked = ap (λ o. option_map_or (λ (x : Capability). is_none x.mark) o false) held ∙ ap (λ m. is_none m) unmarked
 
       listed : (a : KeyName) → Contains roots a → (q : KeyName) → Reached caps a q → Contains ks q

@@ -12,8 +12,8 @@ use Rattle.sem_grants.specs.Ending.{ended_by}
 use Rattle.sem_query.specs.declared.holder.Holder.{Holder}
 use Rattle.sem_query.specs.declared.holder.Holder.TheVariants.{Way}
 use Rattle.sem_query.specs.Whereabouts.{held_as, whereabouts}
-use Rattle.sem_query.specs.Changes.{is_revoking, grants_key, MayChange, seen_at_home}
-use Rattle.sem_query.specs.Lives.{KeyLife, noted, life_granted, life, told}
+use Rattle.sem_query.specs.Changes.{may_revoke, grants_key, MayChange, seen_at_home}
+use Rattle.sem_query.specs.Lives.{KeyLife, noted, life_granted, life, told_holder}
 
 -- Lives.
 
@@ -35,7 +35,7 @@ life_so_far T J k = unwrap_or (life T J k) (begun_life k None)
 
 -- entry n is noted in a life with all earlier entries noted, by where the key is after it
 abbrev pub noted_now : ℕ → Holder → KeyLife → KeyLife
-noted_now n later l = noted n (told (n + 1) l) later l
+noted_now n later l = noted n (told_holder (n + 1) l) later l
 
 -- the same in the life of the key among these
 abbrev pub noted_of : KeyName → ℕ → Holder → List KeyLife → List KeyLife
@@ -72,13 +72,13 @@ brought_in (Ack key accepted) = if accepted then Some key else None
 brought_in m = None
 
 -- the message that the entry handles
-abbrev pub handled : Act → Detail → Option Message
-handled Handle (Carried from m) = Some m
-handled act detail = None
+abbrev pub handled_message : Act → Detail → Option Message
+handled_message Handle (Carried from m) = Some m
+handled_message act detail = None
 
 -- the key that this message brings
 abbrev pub brought_by : Act → Detail → Option KeyName
-brought_by act detail = option_and_then brought_in (handled act detail)
+brought_by act detail = option_and_then brought_in (handled_message act detail)
 
 -- the key that a waiting call is ready to install
 abbrev pub ready_key : Option Parked → Option KeyName
@@ -98,9 +98,9 @@ ready_among T i s o =
     filter (λ k. is_ready_with k (parked s k.vpe) && (owner_of T k == i)) (option_to_list o)
 
 -- the VPE whose call goes on
-abbrev pub resumed : Act → Option ℕ
-resumed (Resume v) = Some v
-resumed act = None
+abbrev pub resumed_vpe : Act → Option ℕ
+resumed_vpe (Resume v) = Some v
+resumed_vpe act = None
 
 -- the key that a message asks to revoke
 abbrev pub requested_in : Message → Option KeyName
@@ -109,7 +109,7 @@ requested_in m = None
 
 -- the key that another kernel asks to revoke
 abbrev pub requested : Act → Detail → Option KeyName
-requested act detail = option_and_then requested_in (handled act detail)
+requested act detail = option_and_then requested_in (handled_message act detail)
 
 -- the job that a token comes back to
 abbrev pub returned_in : Message → Option ℕ
@@ -117,7 +117,7 @@ returned_in (RevokeDone job) = Some job
 returned_in m = None
 
 abbrev pub returned : Act → Detail → Option ℕ
-returned act detail = option_and_then returned_in (handled act detail)
+returned act detail = option_and_then returned_in (handled_message act detail)
 
 -- the keys that the call of a VPE, if there is one, is ready to install
 abbrev pub ready_by : Setup → ℕ → Side → Option ℕ → List KeyName
@@ -135,7 +135,7 @@ revoked_by T i s e reached =
 -- the keys that the entry may move at kernel i, which has that side before it
 abbrev pub moved_at : Setup → ℕ → Side → Entry → List KeyName → List KeyName
 moved_at T i s e reached =
-    ready_by T i s (resumed e.event.act) ++ (if is_revoking e then revoked_by T i s e reached else [])
+    ready_by T i s (resumed_vpe e.event.act) ++ (if may_revoke e then revoked_by T i s e reached else [])
 
 -- the keys that the entry may move in the world before it, except the one that it grants and the
 -- marked ones
@@ -153,7 +153,7 @@ pub record AreMoved (T : Setup) (W : World) (e : Entry) (ks : List KeyName) : Ty
 -- Entries of a schedule.
 
 -- the entry is the next one of a schedule, and W is the world after the entries before it
-pub record IsNext (T : Setup) (W : World) (e : Entry) : Type 0 where
+pub record IsNextEntry (T : Setup) (W : World) (e : Entry) : Type 0 where
   pub before : List Entry
   pub world : W ≡ world_after T before
   pub runs : IsSchedule T (before ++ e ∷ [])

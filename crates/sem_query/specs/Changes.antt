@@ -27,8 +27,8 @@ revokes_by (Kill v) detail = true
 revokes_by act detail = false
 
 -- whether the entry may mark keys, or take them away
-abbrev pub is_revoking : Entry → Bool
-is_revoking e = revokes_by e.event.act e.detail
+abbrev pub may_revoke : Entry → Bool
+may_revoke e = revokes_by e.event.act e.detail
 
 abbrev pub grants_key : KeyName → Entry → Bool
 grants_key k e = option_map_or (λ g. key_eq g.1 k) e.grant false
@@ -56,10 +56,10 @@ pub data MayChange (T : Setup) (W : World) (e : Entry) (k : KeyName) : Type 0 wh
   by_resume : owner_of T k ≡ e.event.kernel → e.event.act ≡ Resume k.vpe
       → IsReadyFor k (side W e.event.kernel) → MayChange T W e k
   -- there was such a call: a request for the key cancels it, or its VPE ends
-  by_end : owner_of T k ≡ e.event.kernel → is_revoking e ≡ true → IsRootOf e k
+  by_end : owner_of T k ≡ e.event.kernel → may_revoke e ≡ true → IsRootOf e k
       → IsReadyFor k (side W e.event.kernel) → MayChange T W e k
   -- it revokes at a kernel that holds the key
-  by_revoking : owner_of T k ≡ e.event.kernel → is_revoking e ≡ true
+  by_revoking : owner_of T k ≡ e.event.kernel → may_revoke e ≡ true
       → IsSome (cap (side W e.event.kernel) k) → MayChange T W e k
 
 -- The place of a key that the entry may have moved and does not grant, as the side of its owner

@@ -140,8 +140,8 @@ abbrev pub held_at : Bool → ℕ → Holder
 held_at marked sel = if marked then Marked sel else Unmarked sel
 
 -- where the key is after the first n entries, as its life tells
-abbrev pub told : ℕ → KeyLife → Holder
-told n l =
+abbrev pub told_holder : ℕ → KeyLife → Holder
+told_holder n l =
     if is_ungranted n l.granted || is_below n l.gone
     then No
     else if is_some l.granted && not (is_below n l.held)
@@ -150,7 +150,7 @@ told n l =
 
 -- the same, of any key and some lives
 abbrev pub told_of : List KeyLife → KeyName → ℕ → Holder
-told_of ls k n = option_map_or (told n) (find (λ l. key_eq l.key k) ls) No
+told_of ls k n = option_map_or (told_holder n) (find (λ l. key_eq l.key k) ls) No
 
 -- One entry more.
 

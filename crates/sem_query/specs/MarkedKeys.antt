@@ -14,12 +14,12 @@ mark_in s k = option_and_then (λ c. c.mark) (cap s k)
 abbrev pub mark_at : Setup → World → KeyName → Option ℕ
 mark_at T W k = mark_in (side W (owner_of T k)) k
 
-abbrev pub is_marked_by : Setup → World → KeyName → ℕ → Bool
-is_marked_by T W k j = option_map_or (λ m. m == j) (mark_at T W k) false
+abbrev pub has_mark_of : Setup → World → KeyName → ℕ → Bool
+has_mark_of T W k j = option_map_or (λ m. m == j) (mark_at T W k) false
 
 -- these are the held marked keys, with their jobs
-abbrev pub AreMarked : Setup → World → List (KeyName × ℕ) → Type 0
-AreMarked T W ms = (k : KeyName) (j : ℕ) → Contains ms (k, j) ↔ (mark_at T W k ≡ Some j)
+abbrev pub AreAllMarked : Setup → World → List (KeyName × ℕ) → Type 0
+AreAllMarked T W ms = (k : KeyName) (j : ℕ) → Contains ms (k, j) ↔ (mark_at T W k ≡ Some j)
 
 -- the key with its job, if it is held marked
 abbrev pub marking : Setup → World → KeyName → List (KeyName × ℕ)
@@ -73,7 +73,7 @@ pub data StaysMarked
 abbrev pub is_swept : Setup → World → ℕ → Option ℕ → KeyName × ℕ → Bool
 is_swept T V i only p =
     (owner_of T p.0 == i)
-    && option_map_or (λ j. p.1 == j) only (not (is_marked_by T V p.0 p.1))
+    && option_map_or (λ j. p.1 == j) only (not (has_mark_of T V p.0 p.1))
 
 -- Marked keys are split into those that stay as they are and those that a token may take away.
 pub record AreParted

@@ -7,9 +7,9 @@ use Rattle.std.specs.HashSet.{HashSet, contains}
 use Rattle.sem_machine.specs.Prelude.{KeyName, IsValidKey, packed, Capability, has_key, Entry}
 use Rattle.sem_key.specs.CapList.{keys_of}
 use Rattle.sem_key.specs.Region.{Reached}
-use Rattle.sem_mark.specs.Walks.{is_open}
+use Rattle.sem_mark.specs.Walks.{is_unmarked_at}
 use Rattle.sem_grants.specs.Ending.{ended_by}
-use Rattle.sem_query.specs.Changes.{is_revoking, IsRootOf}
+use Rattle.sem_query.specs.Changes.{may_revoke, IsRootOf}
 use Rattle.sem_query.specs.Building.{requested}
 
 -- The reached keys.
@@ -29,7 +29,7 @@ IsRevokedBy caps e k = (a : KeyName) × IsRootOf e a × Reached caps a k
 -- these are exactly the keys that the entry reaches, if it revokes
 abbrev pub AreRevoked : List Capability → Entry → List KeyName → Type 0
 AreRevoked caps e ks =
-    is_revoking e ≡ true → (k : KeyName) → Contains ks k ↔ IsRevokedBy caps e k
+    may_revoke e ≡ true → (k : KeyName) → Contains ks k ↔ IsRevokedBy caps e k
 
 -- the held keys of a VPE
 abbrev pub held_of : List Capability → ℕ → List KeyName
@@ -51,8 +51,8 @@ unlisted caps ks = length (filter (λ c. not (has_key ks c.key)) caps)
 -- the keys of qs that are held unmarked join the listed ones, after them and each once
 pub record Lists (caps : List Capability) (qs old new : List KeyName) : Type 0 where
   pub behind : (more : List KeyName) × (new ≡ old ++ more)
-  pub only : (k : KeyName) → Contains new k → Contains old k ⊎ (Contains qs k × (is_open caps k ≡ true))
-  pub all : (k : KeyName) → Contains qs k → is_open caps k ≡ true → Contains new k
+  pub only : (k : KeyName) → Contains new k → Contains old k ⊎ (Contains qs k × (is_unmarked_at caps k ≡ true))
+  pub all : (k : KeyName) → Contains qs k → is_unmarked_at caps k ≡ true → Contains new k
   pub room : length new + unlisted caps new ≤ length old + unlisted caps old
 
 -- whether the packed word of the key is in the set

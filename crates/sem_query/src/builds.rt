@@ -10,8 +10,8 @@ ghost use Rattle.sem_machine.specs.Schedules.{IsSchedule};
 ghost use Rattle.sem_query.specs.Lives.{lives};
 ghost use Rattle.sem_kernel.specs.Worlds.{stepped_value};
 ghost use Rattle.sem_query.specs.Building.{life_so_far, all_noted, grant_noted};
-ghost use Rattle.sem_query.specs.Building.{IsNext, IsFollowed};
-ghost use Rattle.sem_query.specs.MarkedKeys.{marking, AreMarked};
+ghost use Rattle.sem_query.specs.Building.{IsNextEntry, IsFollowed};
+ghost use Rattle.sem_query.specs.MarkedKeys.{marking, AreAllMarked};
 
 use crate::index::Index;
 use crate::life::Life;
@@ -115,12 +115,12 @@ fn follow(
 ) -> Result<(), OutOfMemory>
     requires setup { IsSetup setup.now }
     requires world { world.old.setup ≡ setup.now }
-    requires next { IsNext setup.now world.old.world entry.now }
+    requires next { IsNextEntry setup.now world.old.world entry.now }
     requires enabled { is_enabled world.old.setup world.old.world entry.now.event ≡ true }
     requires few { n + 1 < 2 ^ 64 }
-    requires marked { AreMarked setup.now world.old.world marked.old.items }
+    requires marked { AreAllMarked setup.now world.old.world marked.old.items }
     ensures world { OnOk result (world.new ≡ stepped_value world.old entry.now.event) }
-    ensures marked { OnOk result (AreMarked setup.now world.new.world marked.new.items) }
+    ensures marked { OnOk result (AreAllMarked setup.now world.new.world marked.new.items) }
     ensures index { OnOk result
         (IsFollowed setup.now world.old.world n entry.now index.old index.new) }
 {

@@ -1,8 +1,8 @@
 // What an entry tells of the keys that it moves.
 ghost use Rattle.std.specs.Prelude.{◌≡◌, option_copied};
-ghost use Rattle.sem_query.specs.Changes.{is_revoking as is_revoking_spec};
-ghost use Rattle.sem_query.specs.Building.{handled as handled_spec, brought_in as brought_in_spec};
-ghost use Rattle.sem_query.specs.Building.{brought_by, resumed as resumed_spec};
+ghost use Rattle.sem_query.specs.Changes.{may_revoke as is_revoking_spec};
+ghost use Rattle.sem_query.specs.Building.{handled_message as handled_spec, brought_in as brought_in_spec};
+ghost use Rattle.sem_query.specs.Building.{brought_by, resumed_vpe as resumed_spec};
 ghost use Rattle.sem_query.specs.Building.{requested as requested_spec, returned as returned_spec};
 
 use sem_key::Key;

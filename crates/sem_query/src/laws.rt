@@ -21,7 +21,7 @@ ghost use Rattle.sem_machine.specs.Living.{HoldsCap};
 ghost use Rattle.sem_query.specs.declared.holder.Holder.{Holder};
 ghost use Rattle.sem_query.specs.Whereabouts.{IsThere, Passes, whereabouts, whereabouts_after};
 ghost use Rattle.sem_query.specs.Whereabouts.{holder};
-ghost use Rattle.sem_query.specs.Changes.{is_revoking, grants_key, MayChange, IsRootOf};
+ghost use Rattle.sem_query.specs.Changes.{may_revoke, grants_key, MayChange, IsRootOf};
 ghost use Rattle.sem_query.specs.Changes.{seen_at_home};
 ghost use Rattle.sem_query.specs.Denials.{IsAt, IsCallAt, IsDenied};
 ghost use Rattle.sem_query.specs.Lives.{KeyLife, life_of_root, life, lives, told_of, noted_in};
@@ -116,7 +116,7 @@ pub fn entries_revoke_what_is_reached()
     ensures spared { (T : Setup) → IsSetup T → (J before later : List Entry) (e : Entry)
         → (k : KeyName) (c : Capability)
         → IsSchedule T J → J ≡ before ++ e ∷ later
-        → owner_of T k ≡ e.event.kernel → is_revoking e ≡ true
+        → owner_of T k ≡ e.event.kernel → may_revoke e ≡ true
         → HoldsCap (world_after T before) (owner_of T k) k c → c.mark ≡ None
         → ((a : KeyName) → IsRootOf e a
         → Reached (side (world_after T before) e.event.kernel).caps a k → ⊥)
@@ -129,7 +129,7 @@ pub fn marked_keys_wait_for_tokens()
     ensures stays { (T : Setup) → IsSetup T → (J before later : List Entry) (e : Entry)
         → (k : KeyName) (c : Capability) (j : ℕ)
         → IsSchedule T J → J ≡ before ++ e ∷ later
-        → owner_of T k ≡ e.event.kernel → is_revoking e ≡ true
+        → owner_of T k ≡ e.event.kernel → may_revoke e ≡ true
         → ((from job : ℕ) → e.detail ≡ Carried from (RevokeDone job) → ⊥)
         → HoldsCap (world_after T before) (owner_of T k) k c → c.mark ≡ Some j
         → whereabouts_after T before k ≡ whereabouts_after T (before ++ e ∷ []) k }

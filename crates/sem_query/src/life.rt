@@ -4,7 +4,7 @@ ghost use Rattle.std.specs.Prelude.{if◌then◌else◌, OnOk};
 ghost use Rattle.sem_query.specs.Lives.{is_below as is_below_spec};
 ghost use Rattle.sem_query.specs.Lives.{is_ungranted as is_ungranted_spec};
 ghost use Rattle.sem_query.specs.Lives.{is_odd as is_odd_spec, held_at as held_at_spec};
-ghost use Rattle.sem_query.specs.Lives.{told as told_spec, life_granted};
+ghost use Rattle.sem_query.specs.Lives.{told_holder as told_spec, life_granted};
 ghost use Rattle.sem_query.specs.Building.{noted_now, begun_life};
 
 use crate::holder::Holder;

@@ -5,7 +5,7 @@ ghost use Rattle.std.specs.Prelude.{IfSome, IfNone, OnOk};
 ghost use Rattle.sem_key.specs.KeyName.{KeyName};
 ghost use Rattle.sem_msg.specs.Lookups.{owner_of};
 ghost use Rattle.sem_machine.specs.Machine.{side};
-ghost use Rattle.sem_query.specs.MarkedKeys.{mark_at, is_marked_by as is_marked_by_spec, AreMarked};
+ghost use Rattle.sem_query.specs.MarkedKeys.{mark_at, has_mark_of as is_marked_by_spec, AreAllMarked};
 ghost use Rattle.sem_query.specs.MarkedKeys.{marking, above_in, IsSeen, IsBounded};
 ghost use Rattle.sem_query.specs.MarkedKeys.{is_swept as is_swept_spec, AreParted};
 
@@ -66,7 +66,7 @@ fn is_marked_by(setup: &Setup, world: &World, key: Key, job: u32) -> bool
 /// The token that the entry handles, if one comes back to a job that marks a key. The world must be
 /// the one before the entry.
 pub fn token_of(marked: &[(Key, u32)], setup: &Setup, world: &World, entry: &Entry) -> Option<Token>
-    requires { AreMarked setup.now world.now.world marked.now }
+    requires { AreAllMarked setup.now world.now.world marked.now }
     ensures { IsSeen setup.now world.now.world entry.now result }
 {
     let Some(job) = returned(entry) else {

@@ -5,7 +5,7 @@ ghost use Rattle.std.specs.Prelude.{IfOk};
 ghost use Rattle.std.specs.Option.{option_to_list};
 ghost use Rattle.sem_key.specs.KeyName.{IsValidKey, key_eq};
 ghost use Rattle.sem_key.specs.Region.{has_key};
-ghost use Rattle.sem_mark.specs.Walks.{is_open as is_open_spec, children_at};
+ghost use Rattle.sem_mark.specs.Walks.{is_unmarked_at as is_open_spec, children_at};
 ghost use Rattle.sem_query.specs.Reaching.{AreReached, AreRevoked, held_of};
 ghost use Rattle.sem_query.specs.Reaching.{roots_of as roots_of_spec, Lists};
 ghost use Rattle.sem_query.specs.Reaching.{has_word as has_word_spec, HasWords};

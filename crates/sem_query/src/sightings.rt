@@ -7,8 +7,8 @@ ghost use Rattle.sem_machine.specs.Machine.{side, start};
 ghost use Rattle.sem_machine.specs.Schedules.{IsSchedule, world_after};
 ghost use Rattle.sem_query.specs.Whereabouts.{holder as holder_spec};
 ghost use Rattle.sem_query.specs.Changes.{grants_key};
-ghost use Rattle.sem_query.specs.Sightings.{IsSeen, IsReadied, is_key as is_key_spec};
-ghost use Rattle.sem_query.specs.Sightings.{is_vpe as is_vpe_spec, is_root as is_root_spec};
+ghost use Rattle.sem_query.specs.Sightings.{IsSeen, IsReadied, is_that_key as is_key_spec};
+ghost use Rattle.sem_query.specs.Sightings.{is_that_vpe as is_vpe_spec, is_root as is_root_spec};
 ghost use Rattle.sem_query.specs.Sightings.{moves_at_home as moves_at_home_spec};
 ghost use Rattle.sem_query.specs.Sightings.{may_move as may_move_spec};
 

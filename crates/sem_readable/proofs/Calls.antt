@@ -6,7 +6,7 @@ use Rattle.sem_msg.specs.declared.call.Call.TheVariants.{Derive, Gate, Obtain, D
 use Rattle.sem_msg.specs.declared.call.Call.TheVariants.{Credit, Exit, Clear}
 use Rattle.sem_msg.specs.Calls.{IsValidCall}
 use Rattle.sem_msg.specs.Versions.{most_vpes}
-use Rattle.sem_trace.specs.Forms.{Place, form_fault, choice, word_at, word, rights, slots, byte, node, endpoint, calls}
+use Rattle.sem_trace.specs.Forms.{Place, form_fault, choice, word_at, word, rights, slots, byte, node, endpoint_place, calls}
 use Rattle.sem_trace.specs.Words.{call_words}
 use Rattle.sem_readable.proofs.Values.{byte_fits, endpoint_fits}
 use Rattle.sem_readable.proofs.Rows.{Begins, number, vpe, chosen}
@@ -89,33 +89,33 @@ module _ (version : ℕ) (more : List Place) where
       number 0 255 (omega arith) (λ ws. more) (λ ws. BeginsCall (codes "revoke" ∷ ws)) ws none (λ src rest src_in none.
       record { value = Revoke src; rest = rest; is = refl; fits = byte_fits src src_in.1; rest_fits = none })
 
-  bind_row : (ws : List (List ℕ)) → CallRow ws (codes "bind") (endpoint ∷ byte ∷ [])
+  bind_row : (ws : List (List ℕ)) → CallRow ws (codes "bind") (endpoint_place ∷ byte ∷ [])
   bind_row ws none =
       number 0 15 (omega arith) (λ ws. byte ∷ more) (λ ws. BeginsCall (codes "bind" ∷ ws)) ws none (λ ep ws ep_in none.
       number 0 255 (omega arith) (λ ws. more) (λ ws. BeginsCall (codes "bind" ∷ decimal ep ∷ ws)) ws none (λ src rest src_in none.
       record { value = Bind ep src; rest = rest; is = refl; fits = (endpoint_fits ep ep_in.1, byte_fits src src_in.1); rest_fits = none }))
 
-  read_row : (ws : List (List ℕ)) → CallRow ws (codes "read") (endpoint ∷ word ∷ word ∷ [])
+  read_row : (ws : List (List ℕ)) → CallRow ws (codes "read") (endpoint_place ∷ word ∷ word ∷ [])
   read_row ws none =
       number 0 15 (omega arith) (λ ws. word ∷ word ∷ more) (λ ws. BeginsCall (codes "read" ∷ ws)) ws none (λ ep ws ep_in none.
       number 0 4294967295 (omega arith) (λ ws. word ∷ more) (λ ws. BeginsCall (codes "read" ∷ decimal ep ∷ ws)) ws none (λ off ws off_in none.
       number 0 4294967295 (omega arith) (λ ws. more) (λ ws. BeginsCall (codes "read" ∷ decimal ep ∷ decimal off ∷ ws)) ws none (λ len rest len_in none.
       record { value = Read ep off len; rest = rest; is = refl; fits = (endpoint_fits ep ep_in.1, off_in.1, len_in.1); rest_fits = none })))
 
-  write_row : (ws : List (List ℕ)) → CallRow ws (codes "write") (endpoint ∷ word ∷ word ∷ [])
+  write_row : (ws : List (List ℕ)) → CallRow ws (codes "write") (endpoint_place ∷ word ∷ word ∷ [])
   write_row ws none =
       number 0 15 (omega arith) (λ ws. word ∷ word ∷ more) (λ ws. BeginsCall (codes "write" ∷ ws)) ws none (λ ep ws ep_in none.
       number 0 4294967295 (omega arith) (λ ws. word ∷ more) (λ ws. BeginsCall (codes "write" ∷ decimal ep ∷ ws)) ws none (λ off ws off_in none.
       number 0 4294967295 (omega arith) (λ ws. more) (λ ws. BeginsCall (codes "write" ∷ decimal ep ∷ decimal off ∷ ws)) ws none (λ len rest len_in none.
       record { value = Write ep off len; rest = rest; is = refl; fits = (endpoint_fits ep ep_in.1, off_in.1, len_in.1); rest_fits = none })))
 
-  send_row : (ws : List (List ℕ)) → CallRow ws (codes "send") (endpoint ∷ word ∷ [])
+  send_row : (ws : List (List ℕ)) → CallRow ws (codes "send") (endpoint_place ∷ word ∷ [])
   send_row ws none =
       number 0 15 (omega arith) (λ ws. word ∷ more) (λ ws. BeginsCall (codes "send" ∷ ws)) ws none (λ ep ws ep_in none.
       number 0 4294967295 (omega arith) (λ ws. more) (λ ws. BeginsCall (codes "send" ∷ decimal ep ∷ ws)) ws none (λ len rest len_in none.
       record { value = SendCall ep len; rest = rest; is = refl; fits = (endpoint_fits ep ep_in.1, len_in.1); rest_fits = none }))
 
-  credit_row : (ws : List (List ℕ)) → CallRow ws (codes "credit") (endpoint ∷ [])
+  credit_row : (ws : List (List ℕ)) → CallRow ws (codes "credit") (endpoint_place ∷ [])
   credit_row ws none =
       number 0 15 (omega arith) (λ ws. more) (λ ws. BeginsCall (codes "credit" ∷ ws)) ws none (λ ep rest ep_in none.
       record { value = Credit ep; rest = rest; is = refl; fits = endpoint_fits ep ep_in.1; rest_fits = none })

@@ -9,7 +9,7 @@ use Rattle.std.proofs.lemmas.List.Sums.{sum_by_push}
 use Rattle.std.proofs.lemmas.List.{get_or-set_same, get_or-set_other}
 use Rattle.sem_trace.specs.declared.declaration.Declaration.{Declaration}
 use Rattle.sem_trace.specs.Earlier.{first_some, said_window, window_in, said_owner, owner_in, said_pe, pe_in, says_on, is_taken, said_root, roots_in, said_call}
-use Rattle.sem_trace.specs.Earlier.{calls_in, says_service, has_service, said_offer, offer_in, says_deny, is_denied, said_kill, kill_in, is_call, call_number}
+use Rattle.sem_trace.specs.Earlier.{calls_in, says_service, has_service, said_offer, offer_in, says_deny, is_denied, said_kill, kill_in, is_call_line, call_number}
 use Rattle.sem_trace.specs.Earlier.{is_end, is_ended}
 use Rattle.sem_msg.specs.declared.call.Call.{Call}
 use Rattle.sem_msg.specs.declared.setup.Root.{Root}
@@ -208,9 +208,9 @@ unfolding is_ended
 is_ended-new ds d some = any_new is_end ds d some
 
 -- one call more, or none
-pub call_number-more : (ds : List Declaration) (d : Declaration) → call_number (ds ++ d ∷ []) ≡ call_number ds + cond (is_call d) 1 0
+pub call_number-more : (ds : List Declaration) (d : Declaration) → call_number (ds ++ d ∷ []) ≡ call_number ds + cond (is_call_line d) 1 0
 unfolding call_number
-call_number-more ds d = sum_by_push (λ d. cond (is_call d) 1 0) ds d
+call_number-more ds d = sum_by_push (λ d. cond (is_call_line d) 1 0) ds d
 
 -- where nothing is wrong with a line, none of its tests holds
 pub no_fault : (ds : List Declaration) (d : Declaration) → context_fault ds d ≡ None → (is_too_long d ≡ false) × (is_undeclared ds d ≡ false)

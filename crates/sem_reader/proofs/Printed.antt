@@ -23,7 +23,7 @@ use Rattle.sem_trace.specs.declared.declaration.Declaration.{Declaration}
 use Rattle.sem_trace.specs.declared.declaration.Declaration.TheVariants.{Kernels, Window, Pe, Vpe, Memory, Receive, Service, Offer, Deny, Kill, Call as Calls}
 use Rattle.sem_trace.specs.declared.declaration.Declaration.TheVariants.{End}
 use Rattle.sem_trace.specs.Earlier.{first_some, said_window, window_in, said_owner, owner_in, said_pe, pe_in, says_on, is_taken, said_root, roots_in, holds_at}
-use Rattle.sem_trace.specs.Earlier.{says_service, has_service, said_offer, offer_in, says_deny, is_denied, said_kill, kill_in, is_call, call_number}
+use Rattle.sem_trace.specs.Earlier.{says_service, has_service, said_offer, offer_in, says_deny, is_denied, said_kill, kill_in, is_call_line, call_number}
 use Rattle.sem_trace.specs.Context.{context_fault, is_too_long, is_undeclared, is_twice, is_call_too_many}
 use Rattle.sem_trace.specs.Ranges.{IsNode, IsInRange}
 use Rattle.sem_reader.specs.Accepted.{AreAccepted}
@@ -375,7 +375,7 @@ printed T fits d within = let j = joined (section T) (range_with_len 0 8) d with
 
 -- how many calls there are
 abbrev weight : Declaration → ℕ
-weight e = cond (is_call e) 1 0
+weight e = cond (is_call_line e) 1 0
 
 no_call : (e : Declaration) → rank e ≢ 6 → weight e ≡ 0
 no_call (Calls v c) other = absurd (other refl)
@@ -411,7 +411,7 @@ few_calls T fits =
     let few : call_count T ≤ 20000 = fits.few_calls in
     rw (sum_by-append, a, sum_by-append, b, sum_by-append, c, sum_by-append, d, sum_by-append, g, sum_by-append, h, sum_by-append, i) (omega arith)
 
-call_before : (before after : List Declaration) (d : Declaration) → is_call d ≡ true → call_number (before ++ d ∷ after) ≤ 20000 → call_number before < 20000
+call_before : (before after : List Declaration) (d : Declaration) → is_call_line d ≡ true → call_number (before ++ d ∷ after) ≤ 20000 → call_number before < 20000
 unfolding call_number
 call_before before after d call few =
     let whole : sum_by weight (before ++ d ∷ after) ≡ sum_by weight before + sum_by weight (d ∷ after) = sum_by-append weight before (d ∷ after) in
@@ -419,7 +419,7 @@ call_before before after d call few =
     let one : weight d ≡ 1 = rw call refl in
     omega arith
 
-not_too_many : (before : List Declaration) (d : Declaration) → (is_call d ≡ true → call_number before < 20000) → is_call_too_many before d ≡ false
+not_too_many : (before : List Declaration) (d : Declaration) → (is_call_line d ≡ true → call_number before < 20000) → is_call_too_many before d ≡ false
 not_too_many before (Calls v c) few = lt-leb 20000 (call_number before) (few refl)
 not_too_many before d few = refl
 

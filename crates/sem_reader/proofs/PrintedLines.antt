@@ -13,7 +13,7 @@ use Rattle.sem_trace.specs.declared.declaration.Declaration.{Declaration}
 use Rattle.sem_trace.specs.declared.declaration.Declaration.TheVariants.{Kernels, Window, Pe, Vpe, Memory, Receive, Service, Offer, Deny, Kill, Call as Calls}
 use Rattle.sem_trace.specs.declared.declaration.Declaration.TheVariants.{End}
 use Rattle.sem_trace.specs.Words.{call_words}
-use Rattle.sem_trace.specs.Forms.{Place, place_fault, form_fault, choice, word_at, node, byte, endpoint, rights, slots, word, up_to, root_objects, calls, lines}
+use Rattle.sem_trace.specs.Forms.{Place, place_fault, form_fault, choice, word_at, node, byte, endpoint_place, rights, slots, word, up_to, root_objects, calls, lines}
 use Rattle.sem_trace.specs.Forms.{form, kernel_count, window, first_form, second_form, third_form}
 use Rattle.sem_trace.specs.Forms.Place.{Number}
 use Rattle.sem_trace.specs.Declarations.{call_from, root_from, declaration, number_at}
@@ -115,25 +115,25 @@ call_revoke : (version : ℕ) (ws : List (List ℕ)) → form_fault (choice (cal
 unfolding form_fault calls
 call_revoke version ws = refl
 
-call_bind : (version : ℕ) (ws : List (List ℕ)) → form_fault (choice (calls version) (codes "bind")) (codes "bind" ∷ ws) ≡ form_fault (endpoint ∷ byte ∷ []) ws
+call_bind : (version : ℕ) (ws : List (List ℕ)) → form_fault (choice (calls version) (codes "bind")) (codes "bind" ∷ ws) ≡ form_fault (endpoint_place ∷ byte ∷ []) ws
 unfolding form_fault calls
 call_bind version ws = refl
 
 call_read : (version : ℕ) (ws : List (List ℕ)) →
-    form_fault (choice (calls version) (codes "read")) (codes "read" ∷ ws) ≡ form_fault (endpoint ∷ word ∷ word ∷ []) ws
+    form_fault (choice (calls version) (codes "read")) (codes "read" ∷ ws) ≡ form_fault (endpoint_place ∷ word ∷ word ∷ []) ws
 unfolding form_fault calls
 call_read version ws = refl
 
 call_write : (version : ℕ) (ws : List (List ℕ)) → form_fault (choice (calls version) (codes "write")) (codes "write" ∷ ws)
-    ≡ form_fault (endpoint ∷ word ∷ word ∷ []) ws
+    ≡ form_fault (endpoint_place ∷ word ∷ word ∷ []) ws
 unfolding form_fault calls
 call_write version ws = refl
 
-call_send : (version : ℕ) (ws : List (List ℕ)) → form_fault (choice (calls version) (codes "send")) (codes "send" ∷ ws) ≡ form_fault (endpoint ∷ word ∷ []) ws
+call_send : (version : ℕ) (ws : List (List ℕ)) → form_fault (choice (calls version) (codes "send")) (codes "send" ∷ ws) ≡ form_fault (endpoint_place ∷ word ∷ []) ws
 unfolding form_fault calls
 call_send version ws = refl
 
-call_credit : (version : ℕ) (ws : List (List ℕ)) → form_fault (choice (calls version) (codes "credit")) (codes "credit" ∷ ws) ≡ form_fault (endpoint ∷ []) ws
+call_credit : (version : ℕ) (ws : List (List ℕ)) → form_fault (choice (calls version) (codes "credit")) (codes "credit" ∷ ws) ≡ form_fault (endpoint_place ∷ []) ws
 unfolding form_fault calls
 call_credit version ws = refl
 

@@ -23,7 +23,7 @@ use Rattle.sem_reader.specs.declared.tables.Tables.{Tables}
 use Rattle.sem_trace.specs.Readers.{IsWindowLine}
 use Rattle.sem_trace.proofs.Nodes.{some_kernel}
 use Rattle.sem_reader.specs.Tells.{Tells}
-use Rattle.sem_reader.specs.Reads.{IsOpened, IsReadTo, with_line}
+use Rattle.sem_reader.specs.Reads.{IsOpened, IsReadTo, with_significant}
 use Rattle.sem_reader.proofs.OneMore.{accepted_none, is_ended-same, is_ended-new}
 use Rattle.sem_reader.proofs.Empty.{entry}
 
@@ -245,14 +245,14 @@ bad_bytes lines line cause fault = rw fault refl
 
 -- a line that says nothing
 pub skipped : (lines : List (List (List ℕ))) (line : List ℕ) (P : List (List (List ℕ)) → Type 0) → bytes_fault line ≡ None →
-    is_significant (words_of line) ≡ false → P lines → (line_fault lines line ≡ None) × P (with_line lines line)
+    is_significant (words_of line) ≡ false → P lines → (line_fault lines line ≡ None) × P (with_significant lines line)
 unfolding line_fault
 skipped lines line P fits nothing holds = (rw (fits, nothing) refl, rw nothing holds)
 
 -- a line that says something
 pub said : (lines : List (List (List ℕ))) (line : List ℕ) (P : List (List (List ℕ)) → Type 0) → bytes_fault line ≡ None →
     is_significant (words_of line) ≡ true → (words_fault lines (words_of line) ≡ None) × P (lines ++ words_of line ∷ []) →
-    (line_fault lines line ≡ None) × P (with_line lines line)
+    (line_fault lines line ≡ None) × P (with_significant lines line)
 unfolding line_fault
 said lines line P fits something holds = (rw (fits, something) holds.0, rw something holds.1)
 

@@ -26,7 +26,7 @@ use Rattle.sem_trace.specs.declared.line_error.LineError.TheVariants.{Refused as
 use Rattle.sem_reader.specs.declared.reader.Reader.{Reader}
 use Rattle.sem_reader.specs.declared.tables.Tables.{Tables}
 use Rattle.sem_reader.specs.Tells.{Tells, HasSizes, IsTold}
-use Rattle.sem_reader.specs.Reads.{IsOpened, IsReadTo, IsRead, with_line, IsReadUpTo}
+use Rattle.sem_reader.specs.Reads.{IsOpened, IsReadTo, IsRead, with_significant, IsReadUpTo}
 use Rattle.sem_reader.proofs.OneMore.{first_same}
 use Rattle.sem_reader.proofs.MoreItems.{numbers-more, numbers-none}
 
@@ -46,7 +46,7 @@ skips : {Y : Type 0} (o p q r : Option Y) → option_or o p ≡ None → (p ≡ 
 skips None p q r none then' = then' none
 skips (Some x) p q r none then' = absurd (none-some x (sym none))
 
-pub significant-push : (before : List (List ℕ)) (line : List ℕ) → significant (before ++ line ∷ []) ≡ with_line (significant before) line
+pub significant-push : (before : List (List ℕ)) (line : List ℕ) → significant (before ++ line ∷ []) ≡ with_significant (significant before) line
 significant-push [] line =
     elim (cases_Bool (is_significant (words_of line))) [
       | inl says ↦ rw says refl
@@ -99,7 +99,7 @@ read_nothing bytes lines r are few at told sizes = record {
 
 -- one line more is read
 pub read_more : (bytes line : List ℕ) (left behind : List (List ℕ)) (number : ℕ) (old new : Reader) → (so_far : IsReadUpTo bytes left number old) →
-    left ≡ line ∷ behind → (line_fault (significant so_far.before) line ≡ None) × IsRead (with_line (significant so_far.before) line) new →
+    left ≡ line ∷ behind → (line_fault (significant so_far.before) line ≡ None) × IsRead (with_significant (significant so_far.before) line) new →
     HasSizes new.tables → IsReadUpTo bytes behind (number + 1) new
 read_more bytes line left behind number old new so_far next accepted sizes =
     let whole : lines_of bytes ≡ so_far.before ++ line ∷ behind = so_far.lines ∙ ap (λ (ls : List (List ℕ)). so_far.before ++ ls) next in

@@ -28,7 +28,7 @@ use Rattle.sem_msg.specs.Setup.{Setup, IsSetup, IsVpeDecl, IsRoot, IsOffer, IsDe
 use Rattle.sem_trace.specs.declared.limits.TheConstants.{LINK_WINDOW}
 use Rattle.sem_trace.specs.declared.declaration.Declaration.{Declaration}
 use Rattle.sem_trace.specs.declared.declaration.Declaration.TheVariants.{Call as Calls}
-use Rattle.sem_trace.specs.Earlier.{window_in, owner_in, pe_in, roots_in, said_call, calls_in, vpe_in, offer_in, is_denied, kill_in, call_number, is_call}
+use Rattle.sem_trace.specs.Earlier.{window_in, owner_in, pe_in, roots_in, said_call, calls_in, vpe_in, offer_in, is_denied, kill_in, call_number, is_call_line}
 use Rattle.sem_trace.specs.Refusal.{numbers}
 use Rattle.sem_trace.specs.SetupOfText.{window_of, vpes_of, services_among, named, services_of, offer_of, offers_of, deny_of, denies_of, kills_of, setup_of}
 use Rattle.sem_reader.specs.Accepted.{AreAccepted}
@@ -403,7 +403,7 @@ calls_at ds v = length (calls_in ds v)
 said_by : (v w : ℕ) (c : Call) → (v ≡ w → ⊥) → said_call v (Calls w c) ≡ None
 said_by v w c other = rw (ne_eqb w v (λ e. other (sym e))) refl
 
-call_more : (ds : List Declaration) (d : Declaration) (a n : ℕ) → total (calls_at (ds ++ d ∷ [])) a n ≤ total (calls_at ds) a n + cond (is_call d) 1 0
+call_more : (ds : List Declaration) (d : Declaration) (a n : ℕ) → total (calls_at (ds ++ d ∷ [])) a n ≤ total (calls_at ds) a n + cond (is_call_line d) 1 0
 unfolding calls_at
 call_more ds (Calls w c) a n = total_more (λ v. length (calls_in ds v)) (λ v. length (calls_in (ds ++ Calls w c ∷ []) v)) w a n
     (λ v other. ap (λ (cs : List Call). length cs) (calls_in-same ds (Calls w c) v (said_by v w c other)))

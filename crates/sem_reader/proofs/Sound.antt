@@ -18,7 +18,7 @@ use Rattle.sem_msg.specs.Versions.{most_vpes, IsWindow}
 use Rattle.sem_trace.specs.declared.declaration.Declaration.{Declaration}
 use Rattle.sem_trace.specs.declared.declaration.Declaration.TheVariants.{Window, Pe, Vpe, Memory, Receive, Service, Offer, Deny, Kill, Call as Calls}
 use Rattle.sem_trace.specs.Earlier.{said_window, window_in, said_owner, owner_in, said_pe, pe_in, is_taken, said_root, roots_in, holds_at, said_call, calls_in}
-use Rattle.sem_trace.specs.Earlier.{says_service, has_service, said_offer, offer_in, says_deny, is_denied, said_kill, kill_in, call_number, is_call}
+use Rattle.sem_trace.specs.Earlier.{says_service, has_service, said_offer, offer_in, says_deny, is_denied, said_kill, kill_in, call_number, is_call_line}
 use Rattle.sem_trace.specs.Context.{context_fault}
 use Rattle.sem_trace.specs.Ranges.{IsInRange}
 use Rattle.sem_reader.specs.Accepted.{AreAccepted}
@@ -341,7 +341,7 @@ windows version kernels = by_lines version kernels (λ ds. (n : ℕ) → window_
     ])
 
 -- there are few calls
-call_fits : (ds : List Declaration) (d : Declaration) → call_number ds ≤ 20000 → context_fault ds d ≡ None → call_number ds + cond (is_call d) 1 0 ≤ 20000
+call_fits : (ds : List Declaration) (d : Declaration) → call_number ds ≤ 20000 → context_fault ds d ≡ None → call_number ds + cond (is_call_line d) 1 0 ≤ 20000
 call_fits ds (Calls v c) so_far fault = let few : call_number ds < 20000 = leb-false 20000 (call_number ds) (no_fault ds (Calls v c) fault).3 in omega arith
 call_fits ds d so_far fault = omega arith
 

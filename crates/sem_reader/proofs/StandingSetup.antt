@@ -22,7 +22,7 @@ use Rattle.sem_trace.specs.Refusal.{version_in, is_third, body_fault, words_faul
 use Rattle.sem_trace.specs.Refusal.{declarations_of, end_fault, lines_refusal, refusal}
 use Rattle.sem_trace.specs.SetupOfText.{setup_of, Stands}
 use Rattle.sem_reader.specs.Accepted.{AreAccepted}
-use Rattle.sem_reader.specs.Reads.{with_line}
+use Rattle.sem_reader.specs.Reads.{with_significant}
 use Rattle.sem_reader.proofs.InRange.{at_place, number_in, one_of, form_ranges}
 use Rattle.sem_reader.proofs.MoreItems.{numbers-more}
 use Rattle.sem_reader.proofs.OneMore.{accepted_more, accepted_none}
@@ -119,7 +119,7 @@ good_more (first ∷ second ∷ earlier) words good none =
     )
 
 -- the same of a line that may say nothing
-good_line : (ls : List (List (List ℕ))) (line : List ℕ) → IsGood ls → line_fault ls line ≡ None → IsGood (with_line ls line)
+good_line : (ls : List (List (List ℕ))) (line : List ℕ) → IsGood ls → line_fault ls line ≡ None → IsGood (with_significant ls line)
 unfolding line_fault
 good_line ls line good none = from (is_significant (words_of line)) (both_none (option_map whole_line (bytes_fault line)) _ none).1
   where

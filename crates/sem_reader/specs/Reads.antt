@@ -44,13 +44,13 @@ abbrev pub Refuses : List (List ℕ) → Reader → LineFault → Type 0
 Refuses words old fault = (lines : List (List (List ℕ))) → IsRead lines old → words_fault lines words ≡ Some fault
 
 -- the lines, and the line too, if it says something
-abbrev pub with_line : List (List (List ℕ)) → List ℕ → List (List (List ℕ))
-with_line lines line = if is_significant (words_of line) then lines ++ words_of line ∷ [] else lines
+abbrev pub with_significant : List (List (List ℕ)) → List ℕ → List (List (List ℕ))
+with_significant lines line = if is_significant (words_of line) then lines ++ words_of line ∷ [] else lines
 
 -- the same for a line that may say nothing
 abbrev pub AcceptsLine : List ℕ → Reader → Reader → Type 0
 AcceptsLine line old new = (lines : List (List (List ℕ))) → IsRead lines old →
-    (line_fault lines line ≡ None) × IsRead (with_line lines line) new
+    (line_fault lines line ≡ None) × IsRead (with_significant lines line) new
 
 abbrev pub RefusesLine : List ℕ → Reader → LineFault → Type 0
 RefusesLine line old fault = (lines : List (List (List ℕ))) → IsRead lines old → line_fault lines line ≡ Some fault

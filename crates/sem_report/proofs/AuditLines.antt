@@ -20,7 +20,7 @@ use Rattle.sem_journal.specs.ReportText.{held_line}
 use Rattle.sem_report.specs.ReportRanges.{HeldFits}
 use Rattle.sem_report.specs.WholeLines.{whole_lines}
 use Rattle.sem_report.specs.ReportRefusal.{first_difference}
-use Rattle.sem_report.specs.Audited.{audited, AuditFits, differing_line, DifferFirst}
+use Rattle.sem_report.specs.Audited.{audited, AuditFits, first_wrong_line, DifferFirst}
 use Rattle.sem_report.proofs.OneReport.{same_count, same_held}
 use Rattle.sem_report.proofs.PrintedReport.{few_kernels, report_whole, same_lines}
 
@@ -128,18 +128,18 @@ module _ (T : Setup) (J : List Entry) where
         omega (arith, all, parts, last, few, is)
 
     -- the lines before the numbers are the same
-    from-made : differing_line bytes T J due ≡ first_difference made_line (numbers told.made told.cut hs) (numbers due.made due.cut gs)
+    from-made : first_wrong_line bytes T J due ≡ first_difference made_line (numbers told.made told.cut hs) (numbers due.made due.cut gs)
     from-made =
         ap (λ x. first_difference 1 x (whole_lines (audited T J due))) (ap whole_lines spelled ∙ lines-are told fits)
         ∙ (ap (first_difference 1 (front T J ++ numbers told.made told.cut hs)) (lines-are due fits')
         ∙ past_front 1 (front T J) _ _)
 
-    pub made-differ : told.made ≢ due.made → Some made_line ≡ differing_line bytes T J due
+    pub made-differ : told.made ≢ due.made → Some made_line ≡ first_wrong_line bytes T J due
     made-differ other = sym (from-made
         ∙ at_other made_line _ _ _ _ (λ same. other (same_count (codes "made") told.made due.made refl fits.few_made fits'.few_made same)))
 
     module _ (same-made : told.made ≡ due.made) where
-      from-cut : differing_line bytes T J due
+      from-cut : first_wrong_line bytes T J due
           ≡ first_difference (made_line + 1) (line (codes "cut" ∷ decimal told.cut ∷ []) ∷ line (codes "held" ∷ decimal (length hs) ∷ []) ∷ keys hs)
           (line (codes "cut" ∷ decimal due.cut ∷ []) ∷ line (codes "held" ∷ decimal (length gs) ∷ []) ∷ keys gs)
       from-cut =
@@ -147,12 +147,12 @@ module _ (T : Setup) (J : List Entry) where
           ∙ (ap (λ n. first_difference made_line (numbers told.made told.cut hs) (numbers n due.cut gs)) (sym same-made)
           ∙ past_same made_line _ _ _)
 
-      pub cut-differ : told.cut ≢ due.cut → Some (made_line + 1) ≡ differing_line bytes T J due
+      pub cut-differ : told.cut ≢ due.cut → Some (made_line + 1) ≡ first_wrong_line bytes T J due
       cut-differ other = sym (from-cut
           ∙ at_other (made_line + 1) _ _ _ _ (λ same. other (same_count (codes "cut") told.cut due.cut refl fits.few_cut fits'.few_cut same)))
 
       module _ (same-cut : told.cut ≡ due.cut) where
-        from-held : differing_line bytes T J due ≡ first_difference (made_line + 2) (line (codes "held" ∷ decimal (length hs) ∷ []) ∷ keys hs)
+        from-held : first_wrong_line bytes T J due ≡ first_difference (made_line + 2) (line (codes "held" ∷ decimal (length hs) ∷ []) ∷ keys hs)
             (line (codes "held" ∷ decimal (length gs) ∷ []) ∷ keys gs)
         from-held =
             let sum : made_line + 1 + 1 ≡ made_line + 2 = omega arith in
@@ -163,7 +163,7 @@ module _ (T : Setup) (J : List Entry) where
             ∙ ap (λ i. first_difference i (line (codes "held" ∷ decimal (length hs) ∷ []) ∷ keys hs) (line (codes "held" ∷ decimal (length gs) ∷ []) ∷ keys gs))
             sum))
 
-        pub counts-differ : length told.held ≢ length due.held → Some (made_line + 2) ≡ differing_line bytes T J due
+        pub counts-differ : length told.held ≢ length due.held → Some (made_line + 2) ≡ first_wrong_line bytes T J due
         counts-differ other =
             let told-count : length hs ≡ length told.held = length-map told.held _ in
             let due-count : length gs ≡ length due.held = length-map due.held _ in
@@ -171,7 +171,7 @@ module _ (T : Setup) (J : List Entry) where
             ∙ (same_count (codes "held") (length hs) (length gs) refl fits.few_held fits'.few_held same ∙ due-count))))
 
         module _ (same-count : length told.held ≡ length due.held) where
-          from-keys : differing_line bytes T J due ≡ first_difference (made_line + 3) (keys hs) (keys gs)
+          from-keys : first_wrong_line bytes T J due ≡ first_difference (made_line + 3) (keys hs) (keys gs)
           from-keys =
               let sum : made_line + 2 + 1 ≡ made_line + 3 = omega arith in
               let count : length hs ≡ length gs = length-map told.held _ ∙ (same-count ∙ sym (length-map due.held _)) in
@@ -181,9 +181,9 @@ module _ (T : Setup) (J : List Entry) where
               ∙ (past_same (made_line + 2) _ _ _
               ∙ ap (λ i. first_difference i (keys hs) (keys gs)) sum))
 
-          pub none-differ : told.held ≡ due.held → None ≡ differing_line bytes T J due
+          pub none-differ : told.held ≡ due.held → None ≡ first_wrong_line bytes T J due
           none-differ same = sym (from-keys ∙ (ap (λ ks. first_difference (made_line + 3) (keys hs) (keys (held_pairs ks))) (sym same)
               ∙ same_lines (made_line + 3) (keys hs)))
 
-          pub key-differs : (at : ℕ) → DifferFirst told.held due.held at → Some (made_line + 3 + at) ≡ differing_line bytes T J due
+          pub key-differs : (at : ℕ) → DifferFirst told.held due.held at → Some (made_line + 3 + at) ≡ first_wrong_line bytes T J due
           key-differs at differ = sym (from-keys ∙ first-key T.version (made_line + 3) told.held due.held at differ fits.keys fits'.keys)

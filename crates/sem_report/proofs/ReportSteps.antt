@@ -31,9 +31,9 @@ use Rattle.sem_report.specs.WholeLines.{whole_lines, content}
 use Rattle.sem_report.specs.ReportRefusal.{Form, report_form, report_version, count_form, audit_forms, forms_behind, words_in, count_at, report_line_fault}
 use Rattle.sem_report.specs.ReportRefusal.{forms_fault}
 use Rattle.sem_trace.specs.Forms.{whole_line}
-use Rattle.sem_report.specs.ReadsReport.{Because, HaveForms, Stops, NextLine, OneEntry, IsMissing}
+use Rattle.sem_report.specs.ReadsReport.{Because, HaveForms, StopsAt, NextLine, OneEntry, IsMissing}
 
-pub missing_stops : (form : Form) (n : ℕ) (lines : List (List ℕ)) (e : TraceError) → IsMissing n lines e → Stops (form ∷ []) n lines e
+pub missing_stops : (form : Form) (n : ℕ) (lines : List (List ℕ)) (e : TraceError) → IsMissing n lines e → StopsAt (form ∷ []) n lines e
 unfolding forms_fault
 missing_stops form n lines e missing = rw (missing.1, missing.0) (λ more. refl)
 
@@ -43,7 +43,7 @@ unfolding forms_fault
 line_follows form n m text whole behind next good = rw (next.lines, good, next.number) (λ more. refl)
 
 pub line_stops : (form : Form) (n m : ℕ) (text whole behind : List ℕ) (e : LineError) → NextLine n text whole m behind →
-    Because (report_line_fault form whole) e → Stops (form ∷ []) (n + 1) (whole_lines text) (at_line m e)
+    Because (report_line_fault form whole) e → StopsAt (form ∷ []) (n + 1) (whole_lines text) (at_line m e)
 unfolding forms_fault
 line_stops form n m text whole behind (Refused cause) next because = rw (next.lines, because, next.number) (λ more. refl)
 line_stops form n m text whole behind Memory next because = tt
@@ -58,7 +58,7 @@ follows_more form i n m k first next last so_far one more =
 
 -- a line that does not have the form of those before it
 pub stops_at : (form : Form) (i number n m : ℕ) (first next : List (List ℕ)) (e : TraceError) → HaveForms (replicate i form) n first m next → i < number →
-    Stops (form ∷ []) m next e → Stops (replicate number form) n first e
+    StopsAt (form ∷ []) m next e → StopsAt (replicate number form) n first e
 stops_at form i number n m first next (RefusedText fault) so_far within stops = λ more.
     let rest : ℕ = number - i - 1 in
     let split : number ≡ i + (1 + rest) = omega arith in
@@ -131,13 +131,13 @@ pub follows_both : (forms others : List Form) (n m k : ℕ) (first next last : L
 follows_both forms others n m k first next last one other more = ap (λ (fs : List Form). forms_fault n fs first) (append_assoc forms others more)
     ∙ (one (others ++ more) ∙ other more)
 
-pub stops_behind : (forms others : List Form) (n m : ℕ) (first next : List (List ℕ)) (e : TraceError) → HaveForms forms n first m next → Stops others m next e →
-    Stops (forms ++ others) n first e
+pub stops_behind : (forms others : List Form) (n m : ℕ) (first next : List (List ℕ)) (e : TraceError) → HaveForms forms n first m next → StopsAt others m next e →
+    StopsAt (forms ++ others) n first e
 stops_behind forms others n m first next (RefusedText fault) one other =
     λ more. ap (λ (fs : List Form). forms_fault n fs first) (append_assoc forms others more) ∙ (one (others ++ more) ∙ other more)
 stops_behind forms others n m first next NoMemory one other = tt
 
-pub stops_before : (forms others : List Form) (n : ℕ) (first : List (List ℕ)) (e : TraceError) → Stops forms n first e → Stops (forms ++ others) n first e
+pub stops_before : (forms others : List Form) (n : ℕ) (first : List (List ℕ)) (e : TraceError) → StopsAt forms n first e → StopsAt (forms ++ others) n first e
 stops_before forms others n first (RefusedText fault) stops = λ more. ap (λ (fs : List Form). forms_fault n fs first) (append_assoc forms others more)
     ∙ stops (others ++ more)
 stops_before forms others n first NoMemory stops = tt

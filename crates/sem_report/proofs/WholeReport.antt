@@ -18,7 +18,7 @@ use Rattle.sem_report.specs.WholeLines.{whole_lines}
 use Rattle.sem_trace.specs.Forms.{whole_line}
 use Rattle.sem_report.specs.ReportRefusal.{Form, report_form, report_version, forms_fault, forms_behind, trace_section, trace_refusal, setup_in}
 use Rattle.sem_report.specs.ReportRefusal.{refusal_behind, report_refusal}
-use Rattle.sem_report.specs.ReadsReport.{HaveForms, Stops, IsRefused}
+use Rattle.sem_report.specs.ReadsReport.{HaveForms, StopsAt, IsRefused}
 
 pub too_long : (bytes : List ℕ) → 134217728 < length bytes → report_refusal bytes ≡ Some (fault_of 0 (whole_line InputTooLong))
 unfolding report_refusal
@@ -62,7 +62,7 @@ behind_trace version bytes lines behind T n headed traced =
     behind_header version bytes lines headed ∙ (rw (traced.trace, ← traced.declared, ← traced.rest, next) refl)
 
 pub behind_refused : (version : ℕ) (bytes : List ℕ) (lines behind : List (List ℕ)) (T : Setup) (n : ℕ) (e : TraceError) → IsHeaded version bytes lines →
-    IsTraced version lines behind T n → Stops (forms_behind version T.kernels behind) (n + 1) behind e → IsWhy (report_refusal bytes) e
+    IsTraced version lines behind T n → StopsAt (forms_behind version T.kernels behind) (n + 1) behind e → IsWhy (report_refusal bytes) e
 behind_refused version bytes lines behind T n (RefusedText fault) headed traced stops = behind_trace version bytes lines behind T n headed traced
     ∙ (ap (λ (fs : List Form). forms_fault (n + 1) fs behind) (sym (append-nil (forms_behind version T.kernels behind))) ∙ stops [])
 behind_refused version bytes lines behind T n NoMemory headed traced stops = tt

@@ -19,8 +19,8 @@ abbrev pub AuditFits : Setup → List Entry → Audit → Type 0
 AuditFits T J a = ReportFits T J a.made a.cut (held_pairs a.held)
 
 -- the first line in which a text differs from the report with the due audit
-abbrev pub differing_line : List ℕ → Setup → List Entry → Audit → Option ℕ
-differing_line bytes T J due = first_difference 1 (whole_lines bytes) (whole_lines (audited T J due))
+abbrev pub first_wrong_line : List ℕ → Setup → List Entry → Audit → Option ℕ
+first_wrong_line bytes T J due = first_difference 1 (whole_lines bytes) (whole_lines (audited T J due))
 
 -- the first place at which two lists differ
 pub record DifferFirst (told due : List Held) (at : ℕ) : Type 0 where

@@ -28,9 +28,9 @@ HaveForms forms n lines m rest = (more : List Form) →
     forms_fault n (forms ++ more) lines ≡ forms_fault m more rest
 
 -- lines from number n on do not have these forms, or memory was refused
-abbrev pub Stops : List Form → ℕ → List (List ℕ) → TraceError → Type 0
-Stops forms n lines (RefusedText fault) = (more : List Form) → forms_fault n (forms ++ more) lines ≡ Some fault
-Stops forms n lines NoMemory = Unit {0}
+abbrev pub StopsAt : List Form → ℕ → List (List ℕ) → TraceError → Type 0
+StopsAt forms n lines (RefusedText fault) = (more : List Form) → forms_fault n (forms ++ more) lines ≡ Some fault
+StopsAt forms n lines NoMemory = Unit {0}
 
 -- the first line of a text after n lines, and the text after it, after m lines
 pub record NextLine (n : ℕ) (text whole : List ℕ) (m : ℕ) (behind : List ℕ) : Type 0 where

@@ -3,7 +3,7 @@ ghost use Rattle.std.specs.Prelude.{◌≡◌, ◌↔◌, ◌-◌, ◌≤◌, �
 ghost use Rattle.sem_msg.specs.declared.entry.Entry.{Entry as EntryData};
 ghost use Rattle.sem_msg.specs.Setup.{Setup as SetupRecord};
 ghost use Rattle.sem_report.specs.WholeLines.{whole_lines};
-ghost use Rattle.sem_report.specs.Audited.{audited, AuditFits, differing_line, DifferFirst};
+ghost use Rattle.sem_report.specs.Audited.{audited, AuditFits, first_wrong_line, DifferFirst};
 
 use crate::lines::next_whole_line;
 use sem_msg::{Audit, Held};
@@ -27,7 +27,7 @@ pub fn audit_difference(bytes: &[u8], told: &Audit, due: &Audit) -> Option<u64>
     requires few { length bytes.now ≤ 1000000000 }
     ensures { (T : SetupRecord) (J : List EntryData) → bytes.now ≡ audited T J told.now
         → AuditFits T J told.now → AuditFits T J due.now
-        → result ≡ differing_line bytes.now T J due.now }
+        → result ≡ first_wrong_line bytes.now T J due.now }
 {
     if told.made != due.made {
         return Some(made_line(bytes, told));

@@ -16,7 +16,7 @@ ghost use Rattle.sem_report.specs.ReportRefusal.{count_form, held_form, audit_fo
 ghost use Rattle.sem_report.specs.ReportRefusal.{forms_fault, forms_behind};
 ghost use Rattle.sem_report.specs.ReportRefusal.{trace_section, trace_refusal, setup_in};
 ghost use Rattle.sem_report.specs.ReportRefusal.{report_refusal};
-ghost use Rattle.sem_report.specs.ReadsReport.{HaveForms, Stops, NextLine, OneEntry, IsMissing};
+ghost use Rattle.sem_report.specs.ReadsReport.{HaveForms, StopsAt, NextLine, OneEntry, IsMissing};
 ghost use Rattle.sem_report.specs.ReadsReport.{IsRefused, IsBelow, later};
 ghost use Rattle.sem_report.specs.ReportRanges.{HeldFits, ReportFits};
 
@@ -102,7 +102,7 @@ impl<'a> Lines<'a> {
         ensures ok { OnOk result (HaveForms (name_form name.now ∷ []) (self.old.number + 1)
             (whole_lines self.old.rest.now) (self.new.number + 1)
             (whole_lines self.new.rest.now)) }
-        ensures err { IfErr result (Stops (name_form name.now ∷ []) (self.old.number + 1)
+        ensures err { IfErr result (StopsAt (name_form name.now ∷ []) (self.old.number + 1)
             (whole_lines self.old.rest.now)) }
         ensures read { OnOk result
             (self.old.rest.now ≡ line_spec (name.now ∷ []) ++ self.new.rest.now) }
@@ -123,7 +123,7 @@ impl<'a> Lines<'a> {
         ensures ok { OnOk result (HaveForms (count_form name.now ∷ []) (self.old.number + 1)
             (whole_lines self.old.rest.now) (self.new.number + 1)
             (whole_lines self.new.rest.now)) }
-        ensures err { IfErr result (Stops (count_form name.now ∷ []) (self.old.number + 1)
+        ensures err { IfErr result (StopsAt (count_form name.now ∷ []) (self.old.number + 1)
             (whole_lines self.old.rest.now)) }
         ensures read { IfOk result
             (λ n. self.old.rest.now ≡ line_spec (name.now ∷ decimal n ∷ []) ++ self.new.rest.now) }
@@ -147,7 +147,7 @@ impl<'a> Lines<'a> {
             (whole_lines self.old.rest.now) (self.new.number + 1)
             (whole_lines self.new.rest.now)) }
         ensures err { IfErr result
-            (Stops (held_form version ∷ []) (self.old.number + 1) (whole_lines self.old.rest.now)) }
+            (StopsAt (held_form version ∷ []) (self.old.number + 1) (whole_lines self.old.rest.now)) }
         ensures read { IfOk result (λ held. self.old.rest.now
             ≡ line_spec (held_words_spec (held.key, held.sel)) ++ self.new.rest.now) }
         ensures fits { IfOk result (λ held. HeldFits version (held.key, held.sel)) }
@@ -166,7 +166,7 @@ impl<'a> Lines<'a> {
         ensures ok { OnOk result (HaveForms (entry_form version kernels ∷ []) (self.old.number + 1)
             (whole_lines self.old.rest.now) (self.new.number + 1)
             (whole_lines self.new.rest.now)) }
-        ensures err { IfErr result (Stops (entry_form version kernels ∷ []) (self.old.number + 1)
+        ensures err { IfErr result (StopsAt (entry_form version kernels ∷ []) (self.old.number + 1)
             (whole_lines self.old.rest.now)) }
         ensures read { IfOk result
             (λ e. self.old.rest.now ≡ line_spec (entry_words e) ++ self.new.rest.now) }
@@ -194,7 +194,7 @@ impl<'a> Lines<'a> {
         ensures ok { OnOk result (HaveForms (entry_form version kernels ∷ []) (self.old.number + 1)
             (whole_lines self.old.rest.now) (self.new.number + 1)
             (whole_lines self.new.rest.now)) }
-        ensures err { IfErr result (Stops (entry_form version kernels ∷ []) (self.old.number + 1)
+        ensures err { IfErr result (StopsAt (entry_form version kernels ∷ []) (self.old.number + 1)
             (whole_lines self.old.rest.now)) }
         ensures read { OnOk result (OneEntry version kernels self.old.rest.now self.new.rest.now
             journal.old.entries journal.new.entries) }
@@ -227,7 +227,7 @@ impl<'a> Lines<'a> {
         ensures ok { OnOk result (HaveForms (replicate number (entry_form version kernels))
             (self.old.number + 1) (whole_lines self.old.rest.now) (self.new.number + 1)
             (whole_lines self.new.rest.now)) }
-        ensures err { IfErr result (Stops (replicate number (entry_form version kernels))
+        ensures err { IfErr result (StopsAt (replicate number (entry_form version kernels))
             (self.old.number + 1) (whole_lines self.old.rest.now)) }
         ensures read { IfOk result
             (λ j. self.old.rest.now ≡ text (map entry_words j.entries) ++ self.new.rest.now) }
@@ -250,7 +250,7 @@ impl<'a> Lines<'a> {
         ensures ok { OnOk result (HaveForms (replicate number (held_form version))
             (self.old.number + 1) (whole_lines self.old.rest.now) (self.new.number + 1)
             (whole_lines self.new.rest.now)) }
-        ensures err { IfErr result (Stops (replicate number (held_form version))
+        ensures err { IfErr result (StopsAt (replicate number (held_form version))
             (self.old.number + 1) (whole_lines self.old.rest.now)) }
         ensures read { IfOk result (λ held. self.old.rest.now
             ≡ text (map held_words_spec (held_pairs held)) ++ self.new.rest.now) }
@@ -277,7 +277,7 @@ impl<'a> Lines<'a> {
             (self.old.number + 1) (whole_lines self.old.rest.now) (self.new.number + 1)
             (whole_lines self.new.rest.now)) }
         ensures err { IfErr result
-            (Stops (audit_forms version (count_at (whole_lines self.old.rest.now) 3))
+            (StopsAt (audit_forms version (count_at (whole_lines self.old.rest.now) 3))
             (self.old.number + 1) (whole_lines self.old.rest.now)) }
         ensures read { IfOk result (λ a. self.old.rest.now
             ≡ text (audit_lines a.made a.cut (held_pairs a.held)) ++ self.new.rest.now) }
@@ -369,7 +369,7 @@ impl<'a> Lines<'a> {
             (self.old.number + 1) (whole_lines self.old.rest.now) (self.new.number + 1)
             (whole_lines self.new.rest.now)) }
         ensures err { IfErr result
-            (Stops (forms_behind version kernels (whole_lines self.old.rest.now))
+            (StopsAt (forms_behind version kernels (whole_lines self.old.rest.now))
             (self.old.number + 1) (whole_lines self.old.rest.now)) }
         ensures read { IfOk result (λ p. self.old.rest.now ≡ text (journal_lines p.0.entries)
             ++ text (audit_lines p.1.made p.1.cut (held_pairs p.1.held)) ++ self.new.rest.now) }

@@ -36,7 +36,7 @@ use Rattle.sem_msg.specs.Lookups.{kernel_of, owner_of, place_owner, service_name
 use Rattle.sem_msg.specs.Uses.{memory_tests, send_tests, credit_tests}
 use Rattle.sem_machine.specs.Sides.{Side, row, cap, own, parked, endpoint, is_alive, drawn, promised, parked_as, unparked, asked, ask_taken, buried, linked}
 use Rattle.sem_machine.specs.Sides.{freed, send, pending_added, pending_removed}
-use Rattle.sem_machine.specs.Steps.{Step, plain, answer}
+use Rattle.sem_machine.specs.Steps.{Step, unshown, answer}
 use Rattle.sem_machine.specs.Asks.{target_vpe, asker, is_unawaited, promise_freed, call_refused, refusal_sent, ask_refused}
 use Rattle.sem_machine.specs.Calls.{next_key, next_place, child_made, session_service, own_tests, derive_tests, narrowed, gate_tests, ask_made, obtain_tests}
 use Rattle.sem_machine.specs.Calls.{open_tests, offer_tests, offer_made, delegate_tests, bind_tests, call_row, destination_tests}
@@ -357,7 +357,7 @@ module _ (T : Setup) (valid : IsSetup T) (i : ℕ) (few : i < T.kernels) (n : �
     consented-right : (a : Ask) → IsSoundAsk T a → Right s → Right (consented T i v a s).side
     consented-right (ObtainAsk place target) ask is =
         unless-keeps Q (source_tests target (source T s v target)) _ _ (λ code. refused-right code (ObtainAsk place target) ask.0.1 s is)
-        (option-keeps Q (child_given T i place target s) (source T s v target) (plain s)
+        (option-keeps Q (child_given T i place target s) (source T s v target) (unshown s)
         (λ p held. given-right place target p ask (source-held target p held) is) is)
     consented-right (DelegateAsk parent object sel) ask is =
         cond_both (kernel_of T parent.vpe == i) _ _ Q
@@ -373,7 +373,7 @@ module _ (T : Setup) (valid : IsSetup T) (i : ℕ) (few : i < T.kernels) (n : �
 
   pub upcall-right : (v : ℕ) → kernel_of T v ≡ i → (s : Side) → IsSound T i s → IsSound T i (ask_taken v s) → Right s → Right (upcall_row T i s v).side
   unfolding upcall_row
-  upcall-right v local s sound taken is = option-keeps Q (λ (a : Ask). ask_decided T i v a (ask_taken v s)) (slice_get (row s v).asks 0) (plain s)
+  upcall-right v local s sound taken is = option-keeps Q (λ (a : Ask). ask_decided T i v a (ask_taken v s)) (slice_get (row s v).asks 0) (unshown s)
       (λ a there. decided-right v local (ask_taken v s) taken a ((sound.rows v).asks a (ask-among s v a there)) is) is
     where
       ask-among : (t : Side) (w : ℕ) (a : Ask) → slice_get (row t w).asks 0 ≡ Some a → Contains (row t w).asks a

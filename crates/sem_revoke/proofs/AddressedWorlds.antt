@@ -14,7 +14,7 @@ use Rattle.sem_msg.specs.Setup.{Setup, IsSetup}
 use Rattle.sem_msg.specs.Lookups.{kernel_of, calls_of}
 use Rattle.std.proofs.lemmas.Option.{slice_get_within}
 use Rattle.sem_machine.specs.Sides.{Side, row, call_counted, with_inbox}
-use Rattle.sem_machine.specs.Steps.{Step, plain}
+use Rattle.sem_machine.specs.Steps.{Step, unshown}
 use Rattle.sem_machine.specs.Calls.{call_row}
 use Rattle.sem_machine.specs.Handles.{handled}
 use Rattle.sem_machine.specs.Machine.{World, side, start, next_call, local_step, after, event, is_enabled, is_locally_enabled}
@@ -68,7 +68,7 @@ module _ (T : Setup) (valid : IsSetup T) where
     stepped-right (Calls v) enabled still =
         let sound = (schedule-sound T valid before runs).sides i low in
         let local = vpe-local T i s (Calls v) (enabled-parts T W i (Calls v) enabled).0 v (inl refl) in
-        option-keeps (λ (x : Step). Right T valid i low n x.side) (call_row T i (call_counted v s) v) (next_call T s v) (plain s)
+        option-keeps (λ (x : Step). Right T valid i low n x.side) (call_row T i (call_counted v s) v) (next_call T s v) (unshown s)
         (λ c there. call-right T valid i low n v local (call_counted v s)
         (counted-sound T valid i low None None None None s sound v local (slice_get_within (calls_of T v) (row s v).next_call c there)) c (omega arith))
         (omega arith)

@@ -17,7 +17,7 @@ use Rattle.sem_msg.specs.declared.state.Parked.TheVariants.{RevokeWait}
 use Rattle.sem_msg.specs.Setup.{Setup}
 use Rattle.sem_msg.specs.declared.code.Code.TheVariants.{NoCap}
 use Rattle.sem_machine.specs.Sides.{Side, row, cap, cap_in, own, is_marked, parked, is_alive, call_counted, unparked, with_inbox}
-use Rattle.sem_machine.specs.Steps.{Step, plain, answer, cutting}
+use Rattle.sem_machine.specs.Steps.{Step, unshown, answer, cutting}
 use Rattle.sem_machine.specs.Revokes.{revoke_begun, clear_begun}
 use Rattle.sem_machine.specs.Ends.{ended}
 use Rattle.sem_machine.specs.Calls.{call_row}
@@ -129,7 +129,7 @@ module _ (T : Setup) (i : ℕ) (s : Side) (gs : List (KeyName × KeyName)) (pend
     revoke-rest index src = from (own counted v src) refl
       where
         from : (o : Option Capability) → own counted v src ≡ o →
-            CallRest index (Revoke src) (option_map_or (λ (c : Capability). cutting c.key (plain (revoke_begun T i v c.key c.mark counted))) o
+            CallRest index (Revoke src) (option_map_or (λ (c : Capability). cutting c.key (unshown (revoke_begun T i v c.key c.mark counted))) o
             (answer NoCap counted))
         from None no' = refused-rest index (Revoke src) (answer NoCap counted) refl (waiting-rest counted counted-waiting)
         from (Some c) held =
@@ -156,7 +156,7 @@ module _ (T : Setup) (i : ℕ) (s : Side) (gs : List (KeyName × KeyName)) (pend
         (λ passed. from (own counted v src) refl passed.1.0)
       where
         from : (o : Option Capability) → own counted v src ≡ o → is_marked o ≡ false →
-            CallRest index (Clear src) (option_map_or (λ (c : Capability). cutting c.key (plain (clear_begun T i v c.key counted))) o (answer NoCap counted))
+            CallRest index (Clear src) (option_map_or (λ (c : Capability). cutting c.key (unshown (clear_begun T i v c.key counted))) o (answer NoCap counted))
         from None no' test = refused-rest index (Clear src) (answer NoCap counted) refl (waiting-rest counted counted-waiting)
         from (Some c) held test =
             let more : ℕ → KeyName → KeyName → Type 0 = λ w k r. pend w k r ⊎ ((w ≡ v) × (r ≡ c.key) × (k ≡ c.key → ⊥)) in

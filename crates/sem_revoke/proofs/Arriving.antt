@@ -20,7 +20,7 @@ use Rattle.sem_msg.specs.ParkedStates.{is_ready_with}
 use Rattle.sem_msg.specs.Setup.{Setup, IsSetup}
 use Rattle.sem_msg.specs.Lookups.{owner_of}
 use Rattle.sem_machine.specs.Sides.{Side, no_side, parked, outbox, call_counted, parked_as, freed, sent, with_inbox}
-use Rattle.sem_machine.specs.Steps.{plain}
+use Rattle.sem_machine.specs.Steps.{unshown}
 use Rattle.sem_machine.specs.Calls.{call_row}
 use Rattle.sem_machine.specs.Ends.{ended}
 use Rattle.sem_machine.specs.Revokes.{ready_freed, obtain_cancelled}
@@ -327,7 +327,7 @@ module _ (T : Setup) (valid : IsSetup T) where
     event-ordered (Calls v) enabled told = ordered-same T (gs ++ option_to_list (stepped T V (event i (Calls v))).outcome.grant)
         (with_side i (stepped T V (event i (Calls v))).side V) (after T V (event i (Calls v))) (λ a b. refl)
         (stepped-ordered (Calls v) (stepped T V (event i (Calls v))).outcome.grant refl told now (stepped T V (event i (Calls v))).side refl (inl refl)
-        (option-keeps (Keeps T gs V fits H (anything gs V) i) (call_row T i (call_counted v now) v) (next_call T now v) (plain now)
+        (option-keeps (Keeps T gs V fits H (anything gs V) i) (call_row T i (call_counted v now) v) (next_call T now v) (unshown now)
         (λ c there. by-call T gs V fits H (anything gs V) i v c (anything-loses gs T now (Calls v) c there))
         (λ _. row-step T gs V fits H (anything gs V) i now (in_row T gs V fits H (anything gs V) i))
         (facts-of T gs V fits H (anything gs V) i (Calls v) (stepped T V (event i (Calls v))) refl told (λ k. after-lives k all_held T V i (Calls v)))).1)

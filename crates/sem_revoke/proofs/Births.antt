@@ -33,7 +33,7 @@ use Rattle.sem_msg.specs.Setup.{Setup, IsSetup}
 use Rattle.sem_msg.specs.Lookups.{kernel_of, denies, owner_of, place_owner, service_named}
 use Rattle.sem_msg.specs.declared.code.Code.TheVariants.{NoCap, NoService, BadKind}
 use Rattle.sem_machine.specs.Sides.{Side, no_side, row, cap, own, endpoint, parked, call_counted, ask_taken, unparked, drawn, installed, linked, send}
-use Rattle.sem_machine.specs.Steps.{Step, plain, answer, cutting}
+use Rattle.sem_machine.specs.Steps.{Step, unshown, answer, cutting}
 use Rattle.sem_machine.specs.Asks.{asker, is_unawaited, is_obtain_wait, ask_refused}
 use Rattle.sem_msg.specs.Uses.{memory_tests, send_tests, credit_tests}
 use Rattle.sem_machine.specs.Calls.{own_tests, next_key, child_made, narrowed, destination_tests, derive_tests, gate_tests, ask_made, obtain_tests, open_tests}
@@ -111,7 +111,7 @@ call-born T i s v (OpenSession dst name) = unless-keeps Born (open_tests T i s v
 call-born T i s v (AskOffer dst session index) = unless-keeps Born (offer_tests T i s v dst session) _ _ (λ code p k some. absurd cc)
     (option-keeps Born (λ (q : KeyName). ask_made T i v dst (OfferTarget q index) s) _ (answer BadKind s) (λ q there p k some. absurd cc)
     (λ p k some. absurd cc))
-call-born T i s v (Revoke src) = option-keeps Born (λ (c : Capability). cutting c.key (plain (revoke_begun T i v c.key c.mark s))) (own s v src)
+call-born T i s v (Revoke src) = option-keeps Born (λ (c : Capability). cutting c.key (unshown (revoke_begun T i v c.key c.mark s))) (own s v src)
     (answer NoCap s) (λ c held p k some. absurd cc) (λ p k some. absurd cc)
 call-born T i s v (Bind ep src) = unless-keeps Born (bind_tests s v src) _ _ (λ code p k some. absurd cc)
     (option-keeps Born _ (own s v src) (answer NoCap s) (λ c held p k some. absurd cc) (λ p k some. absurd cc))
@@ -121,7 +121,7 @@ call-born T i s v (SendCall ep len) = unless-keeps Born (send_tests (endpoint s 
 call-born T i s v (Credit ep) = unless-keeps Born (credit_tests (endpoint s v ep)) _ _ (λ code p k some. absurd cc) (λ p k some. absurd cc)
 call-born T i s v Exit = λ p k some. absurd cc
 call-born T i s v (Clear src) = unless-keeps Born (own_tests (own s v src)) _ _ (λ code p k some. absurd cc)
-    (option-keeps Born (λ (c : Capability). cutting c.key (plain (clear_begun T i v c.key s))) (own s v src) (answer NoCap s) (λ c held p k some. absurd cc)
+    (option-keeps Born (λ (c : Capability). cutting c.key (unshown (clear_begun T i v c.key s))) (own s v src) (answer NoCap s) (λ c held p k some. absurd cc)
     (λ p k some. absurd cc))
 
 -- a call that waits gets what it waits for
@@ -167,19 +167,19 @@ here-born T v parent object sel s p k some =
 
 upcall-born : (T : Setup) (i : ℕ) (s : Side) (v : ℕ) → Born (upcall_row T i s v)
 unfolding upcall_row
-upcall-born T i s v = option-keeps Born (λ a. ask_decided T i v a (ask_taken v s)) (slice_get (row s v).asks 0) (plain s)
+upcall-born T i s v = option-keeps Born (λ a. ask_decided T i v a (ask_taken v s)) (slice_get (row s v).asks 0) (unshown s)
     (λ a there. cond_both (is_unawaited T i (ask_taken v s) a) _ _ Born (λ _ p k some. absurd cc)
     (λ awaited. cond_both (denies T v (asker a)) _ _ Born (λ _ p k some. absurd cc) (λ _. consent a (ask_taken v s) awaited))) (λ p k some. absurd cc)
   where
     consent : (a : Ask) (u : Side) → is_unawaited T i u a ≡ false → Born (consented T i v a u)
     consent (ObtainAsk place target) u awaited = unless-keeps Born (source_tests target (source T u v target)) _ _ (λ code p k some. absurd cc)
-        (option-keeps Born (child_given T i place target u) (source T u v target) (plain u) (λ c there. child-born T i place target u c awaited)
+        (option-keeps Born (child_given T i place target u) (source T u v target) (unshown u) (λ c there. child-born T i place target u c awaited)
         (λ p k some. absurd cc))
     consent (DelegateAsk parent object sel) u awaited = cond_both (kernel_of T parent.vpe == i) _ _ Born
         (λ _. unless-keeps Born (parent_tests (cap u parent) ++ destination_tests u v sel)
-        (λ code. plain (ask_refused T i code (DelegateAsk parent object sel) u)) (delegate_here T v parent object sel u) (λ code p k some. absurd cc)
+        (λ code. unshown (ask_refused T i code (DelegateAsk parent object sel) u)) (delegate_here T v parent object sel u) (λ code p k some. absurd cc)
         (here-born T v parent object sel u))
-        (λ _. unless-keeps Born (destination_tests u v sel) (λ code. plain (ask_refused T i code (DelegateAsk parent object sel) u))
+        (λ _. unless-keeps Born (destination_tests u v sel) (λ code. unshown (ask_refused T i code (DelegateAsk parent object sel) u))
         (delegate_prepared T v parent object sel u) (λ code p k some. absurd cc) (λ p k some. absurd cc))
 
 resume-born : (T : Setup) (s : Side) (v : ℕ) → Born (resume_row T s v)
@@ -207,7 +207,7 @@ resume-born T s v = by (parked s v)
 
 act-born : (T : Setup) (i : ℕ) (s : Side) (a : Act) (input : Option Message) → Born (local_step T i s a input)
 unfolding local_step
-act-born T i s (Calls v) input = option-keeps Born (call_row T i (call_counted v s) v) (next_call T s v) (plain s)
+act-born T i s (Calls v) input = option-keeps Born (call_row T i (call_counted v s) v) (next_call T s v) (unshown s)
     (λ c there. call-born T i (call_counted v s) v c) (λ p k some. absurd cc)
 act-born T i s (Fetch j) input = λ p k some. absurd cc
 act-born T i s Handle input = λ p k some. absurd cc

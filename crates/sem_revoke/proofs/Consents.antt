@@ -25,7 +25,7 @@ use Rattle.sem_msg.specs.declared.state.Parked.TheVariants.{ObtainWait, ObtainRe
 use Rattle.sem_msg.specs.Setup.{Setup, IsSetup}
 use Rattle.sem_msg.specs.Lookups.{kernel_of, denies, place_owner}
 use Rattle.sem_machine.specs.Sides.{Side, row, cap, outbox, parked, ask_taken, drawn, linked, send}
-use Rattle.sem_machine.specs.Steps.{Step, plain}
+use Rattle.sem_machine.specs.Steps.{Step, unshown}
 use Rattle.sem_machine.specs.Asks.{asker, is_unawaited, is_obtain_wait, ask_refused}
 use Rattle.sem_machine.specs.Calls.{next_key, destination_tests}
 use Rattle.sem_machine.specs.Upcalls.{source, source_tests, parent_tests, given, given_kind, given_here, delegate_here, delegate_prepared, child_given}
@@ -112,14 +112,14 @@ module _ (T : Setup) (i : ℕ) where
 
   consent-gives : (v : ℕ) (a : Ask) (u : Side) → is_unawaited T i u a ≡ false → Gives a (consented T i v a u)
   consent-gives v (ObtainAsk place target) u awaited = unless-keeps (Gives (ObtainAsk place target)) (source_tests target (source T u v target)) _ _
-      (λ code p k some. absurd cc) (option-keeps (Gives (ObtainAsk place target)) (child_given T i place target u) (source T u v target) (plain u)
+      (λ code p k some. absurd cc) (option-keeps (Gives (ObtainAsk place target)) (child_given T i place target u) (source T u v target) (unshown u)
       (λ c there. child-gives place target u c awaited) (λ p k some. absurd cc))
   consent-gives v (DelegateAsk parent object sel) u awaited = cond_both (kernel_of T parent.vpe == i) _ _ (Gives (DelegateAsk parent object sel))
       (λ _. unless-keeps (Gives (DelegateAsk parent object sel)) (parent_tests (cap u parent) ++ destination_tests u v sel)
-      (λ code. plain (ask_refused T i code (DelegateAsk parent object sel) u)) (delegate_here T v parent object sel u) (λ code p k some. absurd cc)
+      (λ code. unshown (ask_refused T i code (DelegateAsk parent object sel) u)) (delegate_here T v parent object sel u) (λ code p k some. absurd cc)
       (here-gives v parent object sel u))
       (λ _. unless-keeps (Gives (DelegateAsk parent object sel)) (destination_tests u v sel)
-      (λ code. plain (ask_refused T i code (DelegateAsk parent object sel) u)) (delegate_prepared T v parent object sel u) (λ code p k some. absurd cc)
+      (λ code. unshown (ask_refused T i code (DelegateAsk parent object sel) u)) (delegate_prepared T v parent object sel u) (λ code p k some. absurd cc)
       (λ p k some. absurd cc))
 
   decided-gives : (v : ℕ) (a : Ask) (u : Side) → Gives a (ask_decided T i v a u)
@@ -129,7 +129,7 @@ module _ (T : Setup) (i : ℕ) where
   pub upcall-gives : (s : Side) (v : ℕ) (p k : KeyName) → ◌≡◌ {A = Option (KeyName × KeyName)} (upcall_row T i s v).outcome.grant (Some (p, k)) →
       ((c : Capability) × (cap (upcall_row T i s v).side k ≡ Some c)) ⊎ ((a : Ask) × Contains (row s v).asks a × Sent a p k (upcall_row T i s v).side)
   unfolding upcall_row
-  upcall-gives s v = option-keeps P (λ (a : Ask). ask_decided T i v a (ask_taken v s)) (slice_get (row s v).asks 0) (plain s)
+  upcall-gives s v = option-keeps P (λ (a : Ask). ask_decided T i v a (ask_taken v s)) (slice_get (row s v).asks 0) (unshown s)
       (λ a there p k some. elim (decided-gives v a (ask_taken v s) p k some) [
         | inl held ↦ inl held
         | inr sent' ↦ inr (a, (0, slice_get_within (row s v).asks 0 a there, get_or_from_slice_get (row s v).asks 0 a a there), sent')

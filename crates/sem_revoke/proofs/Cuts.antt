@@ -21,7 +21,7 @@ use Rattle.sem_msg.specs.declared.state.Parked.TheVariants.{ObtainWait, ObtainRe
 use Rattle.sem_msg.specs.Setup.{Setup, IsSetup}
 use Rattle.sem_msg.specs.Lookups.{kernel_of, denies, calls_of}
 use Rattle.sem_machine.specs.Sides.{Side, row, cap, parked, unparked, is_alive, ask_taken, call_counted}
-use Rattle.sem_machine.specs.Steps.{Step, plain}
+use Rattle.sem_machine.specs.Steps.{Step, unshown}
 use Rattle.sem_machine.specs.Asks.{asker, is_unawaited}
 use Rattle.sem_machine.specs.Calls.{destination_tests, call_row}
 use Rattle.sem_machine.specs.Upcalls.{source, source_tests, child_given, parent_tests, consented, ask_decided, upcall_row}
@@ -31,7 +31,7 @@ use Rattle.sem_machine.specs.Schedules.{IsSchedule, world_after}
 use Rattle.sem_machine.specs.Journals.{cut_off, grants, answered}
 use Rattle.sem_machine.proofs.Folds.{option-keeps}
 use Rattle.sem_machine.proofs.FirstCodes.{unless-keeps}
-use Rattle.sem_safety.specs.History.{History, no_history, note, history, cut_at, call_by, replies_to, succeeds}
+use Rattle.sem_safety.specs.History.{History, no_history, note, history, cut_at, call_by, replies_to, replies_ok}
 use Rattle.sem_safety.proofs.CarryingWorlds.{stepped}
 use Rattle.sem_safety.proofs.GoingOn.{entry-enabled}
 use Rattle.sem_safety.proofs.Noted.{history-cut, history-grants, history-answered}
@@ -57,12 +57,12 @@ CutsNone x = ◌≡◌ {A = Option KeyName} x.outcome.cut None
 
 upcall-cuts : (T : Setup) (i : ℕ) (s : Side) (v : ℕ) → CutsNone (upcall_row T i s v)
 unfolding upcall_row
-upcall-cuts T i s v = option-keeps CutsNone (λ (a : Ask). ask_decided T i v a (ask_taken v s)) (slice_get (row s v).asks 0) (plain s)
+upcall-cuts T i s v = option-keeps CutsNone (λ (a : Ask). ask_decided T i v a (ask_taken v s)) (slice_get (row s v).asks 0) (unshown s)
     (λ a there. decided a (ask_taken v s)) refl
   where
     consents : (a : Ask) (t : Side) → CutsNone (consented T i v a t)
     consents (ObtainAsk place target) t = unless-keeps CutsNone (source_tests target (source T t v target)) _ _ (λ code. refl)
-        (option-keeps CutsNone (child_given T i place target t) (source T t v target) (plain t) (λ p held. refl) refl)
+        (option-keeps CutsNone (child_given T i place target t) (source T t v target) (unshown t) (λ p held. refl) refl)
     consents (DelegateAsk parent object sel) t =
         cond_both (kernel_of T parent.vpe == i) _ _ CutsNone (λ _. unless-keeps CutsNone (parent_tests (cap t parent) ++ destination_tests t v sel) _ _
         (λ code. refl) refl) (λ _. unless-keeps CutsNone (destination_tests t v sel) _ _ (λ code. refl) refl)
@@ -125,7 +125,7 @@ step-owns : (T : Setup) (valid : IsSetup T) (i : ℕ) (low : i < T.kernels) (v :
 unfolding local_step
 step-owns T valid i low v local s sound input = from (next_call T s v) refl
   where
-    from : (o : Option Call) → next_call T s v ≡ o → CutsOwn v (option_map_or (call_row T i (call_counted v s) v) o (plain s))
+    from : (o : Option Call) → next_call T s v ≡ o → CutsOwn v (option_map_or (call_row T i (call_counted v s) v) o (unshown s))
     from None at = λ r some. absurd cc
     from (Some c) at =
         call-owns T valid i low v (call_counted v s)
@@ -156,7 +156,7 @@ module _ (T : Setup) (valid : IsSetup T) where
     hist = fold-push before no_history e
 
     -- who waits for what it cuts off is answered with success
-    replied-well : (v : ℕ) (k r : KeyName) → Waits T before v k r → replies_to e v ≡ true → succeeds e ≡ true
+    replied-well : (v : ℕ) (k r : KeyName) → Waits T before v k r → replies_to e v ≡ true → replies_ok e ≡ true
     replied-well v k r w yes' =
         elim (act-replies T i s e.event.act (input_of W i e.event.act) v
         (ap (λ o. option_map_or (λ (q : Reply). q.vpe == v) o false) (sym (tells T W e made').reply) ∙ yes')) [
@@ -208,15 +208,15 @@ module _ (T : Setup) (valid : IsSetup T) where
       | inl replied ↦
           let w = (schedule-served T valid before runs).rest v ks k among cuts in
           let well = replied-well v k w.0 w.1 replied in
-          let done = filter (λ (w : ℕ × List KeyName). replies_to e w.0 && succeeds e) h.waiting in
+          let done = filter (λ (w : ℕ × List KeyName). replies_to e w.0 && replies_ok e) h.waiting in
           is_answered (subst (λ (H : History). Contains H.answered k) (sym hist)
           (Contains-append_right h.answered (flat_map (λ (w : ℕ × List KeyName). w.1) done) k (Contains-flat_map (λ (w : ℕ × List KeyName). w.1) done (
             v,
             ks,
-          ) k (Contains-filter (λ (w : ℕ × List KeyName). replies_to e w.0 && succeeds e) h.waiting (
+          ) k (Contains-filter (λ (w : ℕ × List KeyName). replies_to e w.0 && replies_ok e) h.waiting (
             v,
             ks,
-          ) among (and_from (replies_to e v) (succeeds e) replied well)) cuts)))
+          ) among (and_from (replies_to e v) (replies_ok e) replied well)) cuts)))
     ]
 
     -- what is cut off now is waited for

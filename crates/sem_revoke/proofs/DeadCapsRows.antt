@@ -25,7 +25,7 @@ use Rattle.sem_msg.specs.Rows.{JobRow}
 use Rattle.sem_msg.specs.Setup.{Setup}
 use Rattle.sem_msg.specs.Lookups.{kernel_of}
 use Rattle.sem_machine.specs.Sides.{Side, row, cap, own, parked, is_alive, drawn, unparked, buried, ask_taken, linked, installed, job_opened, pending_removed}
-use Rattle.sem_machine.specs.Steps.{Step, plain}
+use Rattle.sem_machine.specs.Steps.{Step, unshown}
 use Rattle.sem_machine.specs.Asks.{target_vpe, asker, is_unawaited, refusal_sent, ask_refused}
 use Rattle.sem_machine.specs.Calls.{next_key, call_row}
 use Rattle.sem_machine.specs.Upcalls.{given, given_kind, given_here, ask_decided, upcall_row}
@@ -137,7 +137,7 @@ module _ (k : KeyName) (T : Setup) (i : ℕ) where
   pub upcall-buried : (w : ℕ) → (w ≡ k.vpe → ⊥) → (s : Side) → ((u : ℕ) (p : Parked) → parked s u ≡ Some p → u ≡ k.vpe → ⊥) → B s → B (upcall_row T i s w).side
   unfolding upcall_row
   upcall-buried w other s waits is = option-keeps (λ (y : Step). B y.side) (λ (a : Ask). ask_decided T i w a (ask_taken w s)) (slice_get (row s w).asks 0)
-      (plain s) (λ a there. decided a) is
+      (unshown s) (λ a there. decided a) is
     where
       t : Side
       t = ask_taken w s

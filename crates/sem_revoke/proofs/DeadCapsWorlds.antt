@@ -24,7 +24,7 @@ use Rattle.sem_msg.specs.Setup.{Setup, IsSetup}
 use Rattle.sem_msg.specs.Lookups.{decl, pe_owner, kernel_of, calls_of}
 use Rattle.sem_machine.specs.Sides.{Side, row, parked, is_alive, call_counted, with_inbox}
 use Rattle.sem_machine.specs.Sound.{IsSound}
-use Rattle.sem_machine.specs.Steps.{Step, plain}
+use Rattle.sem_machine.specs.Steps.{Step, unshown}
 use Rattle.sem_machine.specs.Calls.{call_row}
 use Rattle.sem_machine.specs.Handles.{handled}
 use Rattle.sem_machine.specs.Resumes.{can_resume}
@@ -77,7 +77,7 @@ module _ (T : Setup) (valid : IsSetup T) (k : KeyName) where
     dead-on dead (Calls w) input enabled =
         let may = enabled-call T i s w enabled in
         let other : w ≡ v → ⊥ = λ same. true≢false (sym may.1 ∙ (ap (λ u. is_alive s u) same ∙ dead)) in
-        option-keeps (λ (x : Step). Buried k x.side) (call_row T i (call_counted w s) w) (next_call T s w) (plain s) (λ c there.
+        option-keeps (λ (x : Step). Buried k x.side) (call_row T i (call_counted w s) w) (next_call T s w) (unshown s) (λ c there.
         let counted = counted-sound T valid i low None None None None s sound w may.0 (slice_get_within (calls_of T w) (row s w).next_call c there) in
         call-buried k T i w other (call_counted w s) (λ src d held. (own-among T valid i low (call_counted w s) counted w src d held).1) (is dead) c) (is dead)
     dead-on dead (Fetch j) input enabled = is dead
@@ -99,7 +99,7 @@ module _ (T : Setup) (valid : IsSetup T) (k : KeyName) where
     dead-on dead (Kill w) input enabled = other-ended k T i w s (is dead)
 
     -- it ends now
-    exits : (o : Option Call) → next_call T s v ≡ o → o ≡ Some Exit → Buried k (option_map_or (call_row T i (call_counted v s) v) o (plain s)).side
+    exits : (o : Option Call) → next_call T s v ≡ o → o ≡ Some Exit → Buried k (option_map_or (call_row T i (call_counted v s) v) o (unshown s)).side
     unfolding call_row
     exits None at none = absurd cc
     exits (Some c) at exit =

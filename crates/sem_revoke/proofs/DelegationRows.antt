@@ -27,7 +27,7 @@ use Rattle.sem_msg.specs.Setup.{Setup}
 use Rattle.sem_msg.specs.Lookups.{kernel_of, owner_of, place_owner, pe_of}
 use Rattle.sem_machine.specs.Sides.{Side, row, cap, parked, pending, is_alive, call_counted, drawn, promised, parked_as, unparked, asked, ask_taken, installed}
 use Rattle.sem_machine.specs.Sides.{linked, send, with_inbox, pending_added, pending_removed}
-use Rattle.sem_machine.specs.Steps.{Step, plain}
+use Rattle.sem_machine.specs.Steps.{Step, unshown}
 use Rattle.sem_machine.specs.Asks.{target_vpe}
 use Rattle.sem_machine.specs.Calls.{next_key, next_place, call_row}
 use Rattle.sem_machine.specs.Upcalls.{given, given_kind, given_here, delegate_prepared, ask_decided, upcall_row}
@@ -225,7 +225,7 @@ module _ (k0 : KeyName) where
 
     pub upcall-adds : Adds (upcall_row T i s v)
     unfolding upcall_row
-    upcall-adds = option-keeps Adds (λ (a : Ask). ask_decided T i v a u) (slice_get (row s v).asks 0) (plain s) (λ a there. decided-adds a) (inl (omega arith))
+    upcall-adds = option-keeps Adds (λ (a : Ask). ask_decided T i v a u) (slice_get (row s v).asks 0) (unshown s) (λ a there. decided-adds a) (inl (omega arith))
 
   -- Messages.
   handled-few : (T : Setup) (i : ℕ) (s : Side) (from : ℕ) (msg : Message) → of_side k0 (handled T i s from msg) ≤ of_side k0 s + of_returned k0 msg
@@ -263,7 +263,7 @@ module _ (k0 : KeyName) where
   call-few T i s v input =
       let n : ℕ = of_side k0 s in
       let is : Few k0 n s = omega arith in
-      option-keeps (λ (x : Step). Few k0 n x.side) (call_row T i (call_counted v s) v) (next_call T s v) (plain s)
+      option-keeps (λ (x : Step). Few k0 n x.side) (call_row T i (call_counted v s) v) (next_call T s v) (unshown s)
       (λ c there. few-call n T i v c (call_counted v s) is) is
 
   pub resume-few : (T : Setup) (i : ℕ) (s : Side) (v : ℕ) (input : Option Message) → of_side k0 (local_step T i s (Resume v) input).side ≤ of_side k0 s

@@ -26,7 +26,7 @@ use Rattle.sem_msg.specs.Rows.{VpeRow, no_vpe}
 use Rattle.sem_msg.specs.Setup.{Setup}
 use Rattle.sem_msg.specs.Lookups.{kernel_of}
 use Rattle.sem_machine.specs.Sides.{Side, row, parked, unparked, is_alive, buried, freed, call_counted}
-use Rattle.sem_machine.specs.Steps.{plain}
+use Rattle.sem_machine.specs.Steps.{unshown}
 use Rattle.sem_machine.specs.Asks.{asker, is_unawaited, promise_freed, refusal_sent, ask_refused}
 use Rattle.sem_machine.specs.Calls.{call_row}
 use Rattle.sem_machine.specs.Ends.{ask_ended, call_ended, keys_of, revoked_if_left, ended}
@@ -113,7 +113,7 @@ module _ (v : ℕ) where
   unfolding local_step call_row
   step-dead T i s a input (inl kills) = ap (λ b. (row (local_step T i s b input).side v).alive) kills ∙ ended-dead T i s
   step-dead T i s a input (inr (asks, exits)) = ap (λ b. (row (local_step T i s b input).side v).alive) asks
-      ∙ (ap (λ o. (row (option_map_or (call_row T i (call_counted v s) v) o (plain s)).side v).alive) exits ∙ ended-dead T i (call_counted v s))
+      ∙ (ap (λ o. (row (option_map_or (call_row T i (call_counted v s) v) o (unshown s)).side v).alive) exits ∙ ended-dead T i (call_counted v s))
 
   -- an entry that tells of an end
   call-exits : (w n : ℕ) (c : Call) → ends v (Calls w) (Called n c) ≡ true → (w ≡ v) × (c ≡ Exit)

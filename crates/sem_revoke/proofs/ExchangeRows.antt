@@ -29,7 +29,7 @@ use Rattle.sem_msg.specs.Setup.{Setup}
 use Rattle.sem_msg.specs.Lookups.{kernel_of, owner_of, place_owner, denies}
 use Rattle.sem_machine.specs.Sides.{Side, row, cap, own, parked, drawn, promised, parked_as, unparked, asked, ask_taken, buried, linked, installed, send}
 use Rattle.sem_machine.specs.Sides.{pending_added}
-use Rattle.sem_machine.specs.Steps.{Step, plain}
+use Rattle.sem_machine.specs.Steps.{Step, unshown}
 use Rattle.sem_machine.specs.Asks.{target_vpe, asker, is_unawaited, is_obtain_wait}
 use Rattle.sem_machine.specs.Calls.{next_key, next_place, ask_made, offer_made, call_row, destination_tests}
 use Rattle.sem_machine.specs.Upcalls.{source, source_tests, given, given_kind, given_here, child_given, parent_tests, delegate_here, delegate_prepared}
@@ -367,7 +367,7 @@ module _ (x : Exchange) (T : Setup) (i : ℕ) (s0 : Side) where
         (λ passed. from (source T s w target) passed.0)
       where
         from : (o : Option Capability) → is_none o ≡ false →
-            K (m + of_ask x (ObtainAsk place target)) (option_map_or (child_given T i place target s) o (plain s)).side
+            K (m + of_ask x (ObtainAsk place target)) (option_map_or (child_given T i place target s) o (unshown s)).side
         from None none = absurd cc
         from (Some p) some = given-kept place target p awaited
     consented-kept (DelegateAsk parent object sel) awaited =
@@ -388,7 +388,7 @@ module _ (x : Exchange) (T : Setup) (i : ℕ) (s0 : Side) where
   upcall-kept w = from (slice_get (row s0 w).asks 0) refl
     where
       from : (o : Option Ask) → slice_get (row s0 w).asks 0 ≡ o →
-          K (of_side' x T i s0 s0) (option_map_or (λ a. ask_decided T i w a (ask_taken w s0)) o (plain s0)).side
+          K (of_side' x T i s0 s0) (option_map_or (λ a. ask_decided T i w a (ask_taken w s0)) o (unshown s0)).side
       from None none = kept-start x T i s0
       from (Some a) some =
           let t : Side = ask_taken w s0 in

@@ -19,7 +19,7 @@ use Rattle.sem_msg.specs.Rows.{JobRow, VpeRow}
 use Rattle.sem_msg.specs.Setup.{Setup, IsSetup}
 use Rattle.sem_msg.specs.Lookups.{kernel_of, calls_of, own_vpes}
 use Rattle.sem_machine.specs.Sides.{Side, no_side, row, parked, is_alive, call_counted, with_inbox}
-use Rattle.sem_machine.specs.Steps.{Step, plain}
+use Rattle.sem_machine.specs.Steps.{Step, unshown}
 use Rattle.sem_machine.specs.Calls.{call_row}
 use Rattle.sem_machine.specs.Handles.{handled}
 use Rattle.sem_machine.specs.Machine.{World, side, with_side, start, start_side, empty_side, root_added, vpe_added, vpe_fresh, next_call, local_step, after}
@@ -116,7 +116,7 @@ module _ (T : Setup) (valid : IsSetup T) (x : Exchange) where
         let may : free (row s w) (parked s w) ≡ 1 = ap (free (row s w)) calls.2
         ∙ cond-true ((row s w).alive && not (waits None)) 1 0 (and_from (row s w).alive true calls.1 refl) in
         let same = tok-row x T i s s w r refl in
-        option-keeps (λ (y : Step). Steps y.side) (call_row T i t w) (next_call T s w) (plain s)
+        option-keeps (λ (y : Step). Steps y.side) (call_row T i t w) (next_call T s w) (unshown s)
         (λ c there.
         let counted = counted-sound T valid i low None None None None s sound w calls.0 (slice_get_within (calls_of T w) (row s w).next_call c there) in
         call-kept x T i s w calls.0 t (tok s) (omega (arith, same)) (λ home. (refl, alive-row x T i s s w r refl v)) (alive-row x T i s s w r refl w ∙ calls.1)

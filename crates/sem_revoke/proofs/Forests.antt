@@ -28,7 +28,7 @@ use Rattle.sem_msg.specs.declared.state.Parked.TheVariants.{ObtainWait, ObtainRe
 use Rattle.sem_msg.specs.Setup.{Setup, IsSetup}
 use Rattle.sem_msg.specs.Lookups.{kernel_of, denies}
 use Rattle.sem_machine.specs.Sides.{Side, row, cap, parked, ask_taken, unparked}
-use Rattle.sem_machine.specs.Steps.{Step, plain}
+use Rattle.sem_machine.specs.Steps.{Step, unshown}
 use Rattle.sem_machine.specs.Asks.{asker, is_unawaited}
 use Rattle.sem_machine.specs.Upcalls.{source, source_tests, child_given, consented, ask_decided, upcall_row}
 use Rattle.sem_machine.specs.Resumes.{delegate_granted, delegate_resumed, resumed, resume_row}
@@ -56,13 +56,13 @@ NoCut x = ◌≡◌ {A = Option KeyName} x.outcome.cut None
 
 upcall-cut : (T : Setup) (i : ℕ) (s : Side) (v : ℕ) → NoCut (upcall_row T i s v)
 unfolding upcall_row
-upcall-cut T i s v = option-keeps NoCut (λ a. ask_decided T i v a (ask_taken v s)) (slice_get (row s v).asks 0) (plain s)
+upcall-cut T i s v = option-keeps NoCut (λ a. ask_decided T i v a (ask_taken v s)) (slice_get (row s v).asks 0) (unshown s)
     (λ a there. cond_both (is_unawaited T i (ask_taken v s) a) _ _ NoCut (λ _. refl)
     (λ _. cond_both (denies T v (asker a)) _ _ NoCut (λ _. refl) (λ _. consent a (ask_taken v s)))) refl
   where
     consent : (a : Ask) (u : Side) → NoCut (consented T i v a u)
     consent (ObtainAsk place target) u = unless-keeps NoCut (source_tests target (source T u v target)) _ _ (λ code. refl)
-        (option-keeps NoCut (child_given T i place target u) (source T u v target) (plain u) (λ p there. refl) refl)
+        (option-keeps NoCut (child_given T i place target u) (source T u v target) (unshown u) (λ p there. refl) refl)
     consent (DelegateAsk parent object sel) u = cond_both (kernel_of T parent.vpe == i) _ _ NoCut (λ _. unless-keeps NoCut _ _ _ (λ code. refl) refl)
         (λ _. unless-keeps NoCut _ _ _ (λ code. refl) refl)
 

@@ -29,7 +29,7 @@ use Rattle.sem_msg.specs.Setup.{Setup}
 use Rattle.sem_msg.specs.Lookups.{kernel_of, denies, offered, service_named}
 use Rattle.sem_msg.specs.declared.code.Code.TheVariants.{NoCap, NoService, BadKind}
 use Rattle.sem_machine.specs.Sides.{Side, row, cap, own, endpoint, parked, call_counted, unparked, ask_taken}
-use Rattle.sem_machine.specs.Steps.{Step, plain, answer}
+use Rattle.sem_machine.specs.Steps.{Step, unshown, answer}
 use Rattle.sem_machine.specs.Asks.{asker, is_unawaited}
 use Rattle.sem_msg.specs.Uses.{memory_tests, send_tests, credit_tests}
 use Rattle.sem_machine.specs.Calls.{own_tests, is_of, stays_at_home, is_wider, exceeds_slots, object_passes, destination_tests, child_made, narrowed}
@@ -180,7 +180,7 @@ module _ (T : Setup) (i : ℕ) (s : Side) (ob : KeyName → Object) (R : Known s
       let t : Side = ask_taken v s in
       let o : Object = ask_object T t v (ObtainAsk place target) in
       unless-passed (Under o) (source_tests target (source T t v target)) _ _ (λ code p k some. absurd cc)
-      (λ passed. option-keeps (Under o) (child_given T i place target t) (source T t v target) (plain t) (λ p held.
+      (λ passed. option-keeps (Under o) (child_given T i place target t) (source T t v target) (unshown t) (λ p held.
       one o p.key _ p (source-cap v target p held)
       (subst (λ q. narrows q p.key p.object ≡ true) (sym (ap (λ x. option_map_or (given target place.vpe) x (Recv 0)) held))
       (narrows-given target place.vpe p (serves v place target there p held) (sym (ap (object_passes (may_not_give target)) held) ∙ passed.1.1.0))))
@@ -204,7 +204,7 @@ module _ (T : Setup) (i : ℕ) (s : Side) (ob : KeyName → Object) (R : Known s
   upcall-under v = from (slice_get (row s v).asks 0) refl
     where
       from : (o : Option Ask) → slice_get (row s v).asks 0 ≡ o →
-          Under (option_map_or (ask_object T (ask_taken v s) v) o (Recv 0)) (option_map_or (λ (a : Ask). ask_decided T i v a (ask_taken v s)) o (plain s))
+          Under (option_map_or (ask_object T (ask_taken v s) v) o (Recv 0)) (option_map_or (λ (a : Ask). ask_decided T i v a (ask_taken v s)) o (unshown s))
       from None none = λ p k some. absurd cc
       from (Some a) there = cond_both (is_unawaited T i (ask_taken v s) a) _ _ (Under (ask_object T (ask_taken v s) v a)) (λ _ p k some. absurd cc)
           (λ _. cond_both (denies T v (asker a)) _ _ (Under (ask_object T (ask_taken v s) v a)) (λ _ p k some. absurd cc) (λ _. consented-under v a there))
@@ -234,7 +234,7 @@ module _ (T : Setup) (i : ℕ) (s : Side) (ob : KeyName → Object) (R : Known s
   step-under (Calls v) input = from (next_call T s v)
     where
       from : (o : Option Call) →
-          Under (option_map_or (call_object (call_counted v s) v) o (Recv 0)) (option_map_or (call_row T i (call_counted v s) v) o (plain s))
+          Under (option_map_or (call_object (call_counted v s) v) o (Recv 0)) (option_map_or (call_row T i (call_counted v s) v) o (unshown s))
       from None = λ p k some. absurd cc
       from (Some c) = call-under v c
   step-under (Fetch from) input = λ p k some. absurd cc

@@ -28,7 +28,7 @@ use Rattle.sem_msg.specs.Setup.{Setup, IsSetup}
 use Rattle.sem_msg.specs.Lookups.{owner_of, kernel_of}
 use Rattle.sem_machine.specs.Sides.{Side, no_side, cap, outbox, parked, pending, is_alive, call_counted, drawn, installed, linked, unparked, pending_removed}
 use Rattle.sem_machine.specs.Sides.{send, with_inbox}
-use Rattle.sem_machine.specs.Steps.{Step, plain}
+use Rattle.sem_machine.specs.Steps.{Step, unshown}
 use Rattle.sem_machine.specs.Calls.{next_key, child_made, call_row}
 use Rattle.sem_machine.specs.Handles.{is_key_declared, is_here, is_stray, acknowledged, handle_row, handled}
 use Rattle.sem_machine.specs.Resumes.{delegate_granted, delegate_resumed, resumed, resume_row}
@@ -261,7 +261,7 @@ module _ (T : Setup) (valid : IsSetup T) (J : List Entry) (runs : IsSchedule T J
       by (Calls v) act =
           let i : ℕ = e.event.kernel in
           let s : Side = side (world_after T before) i in
-          let held = option-keeps Holds (call_row T i (call_counted v s) v) (next_call T s v) (plain s) (λ c there. call-holds T i v (call_counted v s) c)
+          let held = option-keeps Holds (call_row T i (call_counted v s) v) (next_call T s v) (unshown s) (λ c there. call-holds T i v (call_counted v s) c)
           (λ p' k' some. absurd cc) p k (grants' (Calls v) act) in
           held-live T valid J runs before e later parts i k (
             held.0,

@@ -37,7 +37,7 @@ use Rattle.sem_msg.specs.Codes.{code_number}
 use Rattle.sem_msg.specs.declared.code.Code.TheVariants.{NoCap, Refused, Dead, NoService, BadKind}
 use Rattle.sem_machine.specs.Sides.{Side, row, cap, own, endpoint, parked, unparked, outbox, is_alive, drawn, promised, parked_as, asked, ask_taken, linked}
 use Rattle.sem_machine.specs.Sides.{installed, cap_added, pending_removed, pending_added, send}
-use Rattle.sem_machine.specs.Steps.{Step, plain, answer}
+use Rattle.sem_machine.specs.Steps.{Step, unshown, answer}
 use Rattle.sem_machine.specs.Asks.{asker, target_vpe, is_unawaited, promise_freed, call_refused, refusal_sent, ask_refused}
 use Rattle.sem_key.specs.Region.{has_key}
 use Rattle.sem_machine.specs.Calls.{next_key, next_place, child_made, with_held, derive_tests, narrowed, gate_tests, ask_made, obtain_tests, open_tests}
@@ -437,7 +437,7 @@ module _ (own_by : KeyName → ℕ) (i : ℕ) (s : Side) (link : KeyName → Key
       Grows (obtain_consent T i v place target t)
   obtain-grown T own v place target t G =
       unless-keeps Grows (source_tests target (source T t v target)) _ _ (λ code _. refused-grown T code (ObtainAsk place target) t G)
-      (option-keeps Grows (child_given T i place target t) (source T t v target) (plain t) (λ p held. child_given-grown T own place target t p G) (λ _. G))
+      (option-keeps Grows (child_given T i place target t) (source T t v target) (unshown t) (λ p held. child_given-grown T own place target t p G) (λ _. G))
 
   here-grown : (T : Setup) (v : ℕ) (parent : KeyName) (object : Object) (sel : ℕ) (t : Side) → Grown Unlinked t → Grows (delegate_here T v parent object sel t)
   here-grown T v parent object sel t G = λ grants.
@@ -471,7 +471,7 @@ module _ (own_by : KeyName → ℕ) (i : ℕ) (s : Side) (link : KeyName → Key
 
   pub upcall-grown : (T : Setup) (own : (k : KeyName) → own_by k ≡ owner_of T k) (t : Side) (v : ℕ) → Grown Unlinked t → Grows (upcall_row T i t v)
   unfolding upcall_row
-  upcall-grown T own t v G = option-keeps Grows (λ (a : Ask). ask_decided T i v a (ask_taken v t)) (slice_get (row t v).asks 0) (plain t)
+  upcall-grown T own t v G = option-keeps Grows (λ (a : Ask). ask_decided T i v a (ask_taken v t)) (slice_get (row t v).asks 0) (unshown t)
       (λ a there. decided a (ask_taken v t) (grown-vpes t _ G)) (λ _. G)
     where
       decided : (a : Ask) (u : Side) → Grown Unlinked u → Grows (ask_decided T i v a u)

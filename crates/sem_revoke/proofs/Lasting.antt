@@ -25,7 +25,7 @@ use Rattle.sem_msg.specs.Rows.{JobRow}
 use Rattle.sem_msg.specs.Setup.{Setup, IsSetup}
 use Rattle.sem_msg.specs.Lookups.{owner_of}
 use Rattle.sem_machine.specs.Sides.{Side, no_side, row, cap, job, own, call_counted}
-use Rattle.sem_machine.specs.Steps.{Step, plain, answer, unless, cutting}
+use Rattle.sem_machine.specs.Steps.{Step, unshown, answer, unless, cutting}
 use Rattle.sem_machine.specs.Revokes.{revoke_begun, clear_begun}
 use Rattle.sem_machine.specs.Calls.{own_tests, with_held, call_row}
 use Rattle.sem_machine.specs.Machine.{World, side, start, with_side, next_call, local_step, local_entry, input_of, after, entry_of, is_enabled, detail_of}
@@ -72,21 +72,21 @@ own-pass o c refuse done held unmarked = ap (λ x. unless (own_tests x) refuse d
 revoke-cuts : (T : Setup) (i : ℕ) (s : Side) (v src : ℕ) (c : Capability) → own s v src ≡ Some c →
     ◌≡◌ {A = Option KeyName} (call_row T i s v (Revoke src)).outcome.cut (Some c.key)
 unfolding call_row
-revoke-cuts T i s v src c held = ap (λ o. (with_held o (λ (c : Capability). cutting c.key (plain (revoke_begun T i v c.key c.mark s))) s).outcome.cut) held
+revoke-cuts T i s v src c held = ap (λ o. (with_held o (λ (c : Capability). cutting c.key (unshown (revoke_begun T i v c.key c.mark s))) s).outcome.cut) held
 
 clear-cuts : (T : Setup) (i : ℕ) (s : Side) (v src : ℕ) (c : Capability) → own s v src ≡ Some c → c.mark ≡ None →
     ◌≡◌ {A = Option KeyName} (call_row T i s v (Clear src)).outcome.cut (Some c.key)
 unfolding call_row
 clear-cuts T i s v src c held unmarked =
     ap (λ (x : Step). x.outcome.cut)
-    (own-pass (own s v src) c (λ code. answer code s) (with_held (own s v src) (λ (c : Capability). cutting c.key (plain (clear_begun T i v c.key s))) s)
+    (own-pass (own s v src) c (λ code. answer code s) (with_held (own s v src) (λ (c : Capability). cutting c.key (unshown (clear_begun T i v c.key s))) s)
     held unmarked)
-    ∙ ap (λ o. (with_held o (λ (c : Capability). cutting c.key (plain (clear_begun T i v c.key s))) s).outcome.cut) held
+    ∙ ap (λ o. (with_held o (λ (c : Capability). cutting c.key (unshown (clear_begun T i v c.key s))) s).outcome.cut) held
 
 pub call-step : (T : Setup) (i : ℕ) (s : Side) (v : ℕ) (input : Option Message) (c : Call) → next_call T s v ≡ Some c →
     local_step T i s (Calls v) input ≡ call_row T i (call_counted v s) v c
 unfolding local_step
-call-step T i s v input c there = ap (λ o. option_map_or (call_row T i (call_counted v s) v) o (plain s)) there
+call-step T i s v input c there = ap (λ o. option_map_or (call_row T i (call_counted v s) v) o (unshown s)) there
 
 -- a child of a key is among the keys that were granted below it
 among-children : (gs : List (KeyName × KeyName)) (p k : KeyName) → Par gs p k → Contains (children_in gs p) k

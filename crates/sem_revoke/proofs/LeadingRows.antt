@@ -27,7 +27,7 @@ use Rattle.sem_msg.specs.Setup.{Setup}
 use Rattle.sem_msg.specs.Lookups.{kernel_of, owner_of, place_owner}
 use Rattle.sem_machine.specs.Sides.{Side, row, cap, own, parked, is_alive, call_counted, drawn, promised, parked_as, unparked, asked, ask_taken, buried, linked}
 use Rattle.sem_machine.specs.Sides.{installed, freed, send, with_inbox, pending_added, pending_removed}
-use Rattle.sem_machine.specs.Steps.{Step, plain}
+use Rattle.sem_machine.specs.Steps.{Step, unshown}
 use Rattle.sem_machine.specs.Asks.{target_vpe, asker, is_unawaited, promise_freed, call_refused, refusal_sent, ask_refused}
 use Rattle.sem_machine.specs.Calls.{next_key, next_place, call_row}
 use Rattle.sem_machine.specs.Upcalls.{given, given_kind, given_here, ask_decided, upcall_row}
@@ -196,7 +196,7 @@ module _ (T : Setup) (i : ℕ) (G : KeyName → KeyName → Type 0) (P : Side �
 
   upcall-led : (w : ℕ) (s : Side) → P s → Q (upcall_row T i s w)
   unfolding upcall_row
-  upcall-led w s is = option-keeps Q (λ (a : Ask). ask_decided T i w a (ask_taken w s)) (slice_get (row s w).asks 0) (plain s)
+  upcall-led w s is = option-keeps Q (λ (a : Ask). ask_decided T i w a (ask_taken w s)) (slice_get (row s w).asks 0) (unshown s)
       (λ a there. decided-led w a (ask_taken w s) (K.other s (ask_taken w s) refl refl is)) (λ told. is)
 
   resume-led : (w : ℕ) (s : Side) → P s → Q (resume_row T s w)
@@ -269,7 +269,7 @@ module _ (T : Setup) (i : ℕ) (G : KeyName → KeyName → Type 0) (P : Side �
   pub step-led : (s : Side) (a : Act) (input : Option Message) → (Moves a → ⊥) → P s → Revokings T i P s → Grants (local_step T i s a input)
       → P (local_step T i s a input).side
   unfolding local_step
-  step-led s (Calls w) input still is R told = option-keeps Q (call_row T i (call_counted w s) w) (next_call T s w) (plain s)
+  step-led s (Calls w) input still is R told = option-keeps Q (call_row T i (call_counted w s) w) (next_call T s w) (unshown s)
       (λ c there. call-led w c s R (K.other s (call_counted w s) refl refl is)) (λ told'. is) told
   step-led s (Upcall w) input still is R told = upcall-led w s is told
   step-led s (Resume w) input still is R told = resume-led w s is told

@@ -18,7 +18,7 @@ use Rattle.sem_msg.specs.declared.message.Message.TheVariants.{ObtainOk, Ack, Or
 use Rattle.sem_msg.specs.Setup.{Setup, IsSetup}
 use Rattle.sem_msg.specs.Lookups.{owner_of, place_owner}
 use Rattle.sem_machine.specs.Sides.{Side, row, cap, outbox, unlinked, call_counted, with_inbox}
-use Rattle.sem_machine.specs.Steps.{Step, plain}
+use Rattle.sem_machine.specs.Steps.{Step, unshown}
 use Rattle.sem_machine.specs.Calls.{call_row}
 use Rattle.sem_machine.specs.Handles.{handle_row, handled}
 use Rattle.sem_machine.specs.Machine.{World, side, link, start, next_call, local_step, input_of, event}
@@ -161,7 +161,7 @@ module _ (T : Setup) (valid : IsSetup T) (J : List Entry) (runs : IsSchedule T J
       by : (a : Act) → e.event.act ≡ a → IsThere T V p k
       by (Calls v) act =
           let t' : Side = call_counted v s in
-          holds (Calls v) act (option-keeps HoldsNew (call_row T i t' v) (next_call T s v) (plain s) (λ c there. call-holds T i v t' c)
+          holds (Calls v) act (option-keeps HoldsNew (call_row T i t' v) (next_call T s v) (unshown s) (λ c there. call-holds T i v t' c)
           (λ p' k' some. absurd cc) p k (grants' (Calls v) act))
       by (Upcall u) act = elim (upcall-gives T i s u p k (grants' (Upcall u) act)) [
         | inl held ↦ holds (Upcall u) act held

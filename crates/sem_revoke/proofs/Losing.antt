@@ -8,7 +8,7 @@ use Rattle.sem_msg.specs.declared.event.Act.TheVariants.{Call as Calls, Fetch, H
 use Rattle.sem_msg.specs.Rows.{JobRow}
 use Rattle.sem_msg.specs.Setup.{Setup}
 use Rattle.sem_machine.specs.Sides.{Side, cap, job, call_counted, with_inbox, outbox}
-use Rattle.sem_machine.specs.Steps.{plain}
+use Rattle.sem_machine.specs.Steps.{unshown}
 use Rattle.sem_machine.specs.Calls.{call_row}
 use Rattle.sem_machine.specs.Ends.{ended}
 use Rattle.sem_machine.specs.Machine.{World, side, after, event, next_call, local_step}
@@ -42,7 +42,7 @@ module _ (T : Setup) (gs : List (KeyName × KeyName)) (W : World) (R : IsReady T
       Leaves (stepped T W (event i a)).outcome.grant (stepped T W (event i a)).side
   unfolding after local_step
   event-leaves (Calls v) loses told =
-      sent-leaves _ _ (option-keeps (Keeps T gs W R H L i) (call_row T i (call_counted v now) v) (next_call T now v) (plain now)
+      sent-leaves _ _ (option-keeps (Keeps T gs W R H L i) (call_row T i (call_counted v now) v) (next_call T now v) (unshown now)
       (λ c there. by-call T gs W R H L i v c (loses c there)) (λ _. row-step T gs W R H L i now (in_row T gs W R H L i))
       (facts-of T gs W R H L i (Calls v) (stepped T W (event i (Calls v))) refl told (λ k. after-lives k all_held T W i (Calls v)))).1
   event-leaves (Upcall v) loses told =
@@ -79,7 +79,7 @@ module _ (T : Setup) (gs : List (KeyName × KeyName)) (W : World) (R : IsReady T
   pub event-grows : (a : Act) → ActLoses gs L.lost T now a → Told T gs (stepped T W (event i a)).outcome.grant → Grows a (stepped T W (event i a)).side
   unfolding after local_step
   event-grows (Calls v) loses told = let S =
-      (option-keeps (Keeps T gs W R H L i) (call_row T i (call_counted v now) v) (next_call T now v) (plain now)
+      (option-keeps (Keeps T gs W R H L i) (call_row T i (call_counted v now) v) (next_call T now v) (unshown now)
       (λ c there. by-call T gs W R H L i v c (loses c there)) (λ _. row-step T gs W R H L i now (in_row T gs W R H L i))
       (facts-of T gs W R H L i (Calls v) (stepped T W (event i (Calls v))) refl told (λ k. after-lives k all_held T W i (Calls v)))).1 in
       (S.inbox, boxes (stepped T W (event i (Calls v))).outcome.grant now (stepped T W (event i (Calls v))).side refl S)

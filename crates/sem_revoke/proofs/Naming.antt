@@ -31,7 +31,7 @@ use Rattle.sem_msg.specs.Lookups.{kernel_of, owner_of, place_owner, denies, serv
 use Rattle.sem_msg.specs.declared.code.Code.TheVariants.{NoCap, NoService, BadKind}
 use Rattle.sem_machine.specs.Sides.{Side, row, cap, own, endpoint, parked, drawn, linked, installed, cap_added, call_counted, unparked, ask_taken, succeeding}
 use Rattle.sem_machine.specs.Sides.{send}
-use Rattle.sem_machine.specs.Steps.{Step, plain, answer}
+use Rattle.sem_machine.specs.Steps.{Step, unshown, answer}
 use Rattle.sem_machine.specs.Asks.{asker, is_unawaited}
 use Rattle.sem_machine.specs.Calls.{own_tests, next_key, child_made, derive_tests, narrowed, gate_tests, ask_made, obtain_tests, open_tests, offer_tests}
 use Rattle.sem_machine.specs.Calls.{delegate_tests, bind_tests, destination_tests, call_row}
@@ -58,7 +58,7 @@ module _ (T : Setup) (valid : IsSetup T) (i : ℕ) (few : i < T.kernels) (m : Ke
   Named x = (p k : KeyName) → ◌≡◌ {A = Option (KeyName × KeyName)} x.outcome.grant (Some (p, k)) → (is_declared_at T k.pe k.vpe ≡ true)
       × (owner_of T k ≡ i → at_side k on_its_way x.side ≤ m k)
 
-  nothing : (t : Side) → Named (plain t)
+  nothing : (t : Side) → Named (unshown t)
   nothing t = λ p k some. absurd cc
 
   one : (p0 k0 : KeyName) (t : Side) → (is_declared_at T k0.pe k0.vpe ≡ true) → (owner_of T k0 ≡ i → at_side k0 on_its_way t ≤ m k0) → (p k : KeyName) →
@@ -157,7 +157,7 @@ module _ (T : Setup) (valid : IsSetup T) (i : ℕ) (few : i < T.kernels) (m : Ke
   consented-named : (v : ℕ) (a : Ask) (t : Side) → kernel_of T v ≡ i → IsSoundAsk T a → Few t → Named (consented T i v a t)
   consented-named v (ObtainAsk place target) t here sound bound =
       unless-keeps Named (source_tests target (source T t v target)) _ _ (λ code p k some. absurd cc)
-      (option-keeps Named (child_given T i place target t) (source T t v target) (plain t) (λ p held. given-named place target t p sound.0.1 bound) (nothing t))
+      (option-keeps Named (child_given T i place target t) (source T t v target) (unshown t) (λ p held. given-named place target t p sound.0.1 bound) (nothing t))
   consented-named v (DelegateAsk parent object sel) t here sound bound =
       cond_both (kernel_of T parent.vpe == i) _ _ Named
       (λ _. unless-keeps Named (parent_tests (cap t parent) ++ destination_tests t v sel) _ _ (λ code p k some. absurd cc)
@@ -166,7 +166,7 @@ module _ (T : Setup) (valid : IsSetup T) (i : ℕ) (few : i < T.kernels) (m : Ke
 
   upcall-named : (t : Side) (v : ℕ) → kernel_of T v ≡ i → ((a : Ask) → Contains (row t v).asks a → IsSoundAsk T a) → Few t → Named (upcall_row T i t v)
   unfolding upcall_row
-  upcall-named t v here asks bound = option-keeps Named (λ (a : Ask). ask_decided T i v a (ask_taken v t)) (slice_get (row t v).asks 0) (plain t)
+  upcall-named t v here asks bound = option-keeps Named (λ (a : Ask). ask_decided T i v a (ask_taken v t)) (slice_get (row t v).asks 0) (unshown t)
       (λ a there. cond_both (is_unawaited T i (ask_taken v t) a) _ _ Named (λ _ p k some. absurd cc)
       (λ _. cond_both (denies T v (asker a)) _ _ Named (λ _ p k some. absurd cc)
       (λ _. consented-named v a (ask_taken v t) here (asks a (0, slice_get_within (row t v).asks 0 a there, get_or_from_slice_get (row t v).asks 0 a a there))
@@ -197,7 +197,7 @@ module _ (T : Setup) (valid : IsSetup T) (i : ℕ) (few : i < T.kernels) (m : Ke
 
   pub step-named : (s : Side) (a : Act) (input : Option Message) → IsSound T i s → is_locally_enabled T i s a ≡ true → Few s → Named (local_step T i s a input)
   unfolding local_step is_locally_enabled resume_row
-  step-named s (Calls v) input sound enabled bound = option-keeps Named (call_row T i (call_counted v s) v) (next_call T s v) (plain s)
+  step-named s (Calls v) input sound enabled bound = option-keeps Named (call_row T i (call_counted v s) v) (next_call T s v) (unshown s)
       (λ c there. call-named (call_counted v s) v c (eqb-true (kernel_of T v) i (and_parts (kernel_of T v == i) _ enabled).0)
       (λ k. (lives k on_its_way (m k)).keeps_counted s (bound k) v)) (nothing s)
   step-named s (Fetch from) input sound enabled bound = λ p k some. absurd cc

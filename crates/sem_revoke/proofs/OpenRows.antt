@@ -40,7 +40,7 @@ use Rattle.sem_msg.specs.declared.code.Code.TheVariants.{Ok as OkCode, Dead}
 use Rattle.sem_machine.specs.Sides.{Side, no_side, row, cap, cap_in, own, slot, job, endpoint, parked, is_alive, call_counted, drawn, promised, parked_as}
 use Rattle.sem_machine.specs.Sides.{unparked, asked, ask_taken, buried, linked, installed, cap_added, with_inbox, pending_added, pending_removed, job_opened}
 use Rattle.sem_machine.specs.Sides.{send, with_endpoint}
-use Rattle.sem_machine.specs.Steps.{Step, plain}
+use Rattle.sem_machine.specs.Steps.{Step, unshown}
 use Rattle.sem_machine.specs.Asks.{target_vpe, asker, is_unawaited, promise_freed, call_refused, refusal_sent, ask_refused}
 use Rattle.sem_machine.specs.Calls.{next_key, next_place, call_row}
 use Rattle.sem_machine.specs.Upcalls.{given, given_kind, given_here, ask_decided, upcall_row}
@@ -419,12 +419,12 @@ open-inbox s message is = record { awaited = is.awaited; marked = is.marked; ids
 
 pub step-open : (T : Setup) (i : ℕ) (s : Side) (a : Act) (input : Option Message) → IsOpen s → IsOpen (local_step T i s a input).side
 unfolding local_step upcall_row resume_row
-step-open T i s (Calls v) input is = option-keeps OpenStep (call_row T i (call_counted v s) v) (next_call T s v) (plain s)
+step-open T i s (Calls v) input is = option-keeps OpenStep (call_row T i (call_counted v s) v) (next_call T s v) (unshown s)
     (λ c there. call_row-open T i v c (call_counted v s) (open-row s v (record (row s v) { next_call = (row s v).next_call + 1 }) is)) is
 step-open T i s (Fetch from) input is = open-inbox s (option_map (λ m. (from, m)) input) is
 step-open T i s Handle input is = option-keeps IsOpen (λ (m : ℕ × Message). handled T i (with_inbox None s) m.0 m.1) s.inbox s
     (λ m there. handled-open T i (with_inbox None s) m.0 m.1 (open-inbox s None is)) is
-step-open T i s (Upcall v) input is = option-keeps OpenStep (λ (a : Ask). ask_decided T i v a (ask_taken v s)) (slice_get (row s v).asks 0) (plain s)
+step-open T i s (Upcall v) input is = option-keeps OpenStep (λ (a : Ask). ask_decided T i v a (ask_taken v s)) (slice_get (row s v).asks 0) (unshown s)
     (λ a there. decided-open T i v a (ask_taken v s) (open-row s v (record (row s v) { asks = drop 1 (row s v).asks }) is)) is
 step-open T i s (Resume v) input is = resumed-open T (parked s v) (unparked v s) (open-unparked s v is)
 step-open T i s (Flush to) input is = record { awaited = is.awaited; marked = is.marked; ids = record { rise = is.ids.rise; drawn = is.ids.drawn } }

@@ -35,7 +35,7 @@ use Rattle.sem_msg.specs.Setup.{Setup}
 use Rattle.sem_msg.specs.Lookups.{kernel_of, owner_of, place_owner}
 use Rattle.sem_machine.specs.Sides.{Side, row, cap, parked, pending, is_alive, call_counted, drawn, promised, parked_as, unparked, asked, ask_taken, buried}
 use Rattle.sem_machine.specs.Sides.{linked, installed, freed, send, with_inbox, pending_added, pending_removed}
-use Rattle.sem_machine.specs.Steps.{Step, plain}
+use Rattle.sem_machine.specs.Steps.{Step, unshown}
 use Rattle.sem_machine.specs.Asks.{target_vpe, asker, is_unawaited, promise_freed, refusal_sent, ask_refused}
 use Rattle.sem_machine.specs.Calls.{next_key, next_place, call_row}
 use Rattle.sem_machine.specs.Upcalls.{given, given_kind, given_here, ask_decided, upcall_row}
@@ -287,7 +287,7 @@ module _ (T : Setup) (i : ℕ) (G : KeyName → KeyName → Type 0) (R : KeyName
 
   upcall-parented : (w : ℕ) (s : Side) → Parented s → Q (upcall_row T i s w)
   unfolding upcall_row
-  upcall-parented w s is = option-keeps Q (λ (a : Ask). ask_decided T i w a (ask_taken w s)) (slice_get (row s w).asks 0) (plain s)
+  upcall-parented w s is = option-keeps Q (λ (a : Ask). ask_decided T i w a (ask_taken w s)) (slice_get (row s w).asks 0) (unshown s)
       (λ a there. decided-parented w a (ask_taken w s) (vpes-parented s (ask_taken w s).vpes is)) (λ told. is)
 
   resume-parented : (w : ℕ) (s : Side) → Parented s → Parented (resume_row T s w).side
@@ -380,7 +380,7 @@ module _ (T : Setup) (i : ℕ) (G : KeyName → KeyName → Type 0) (R : KeyName
   step-parented s a input still is acks told = by a still told
     where
       by : (b : Act) → (Moves b → ⊥) → Grants (local_step T i s b input) → Parented (local_step T i s b input).side
-      by (Calls w) still told = option-keeps Q (call_row T i (call_counted w s) w) (next_call T s w) (plain s)
+      by (Calls w) still told = option-keeps Q (call_row T i (call_counted w s) w) (next_call T s w) (unshown s)
           (λ c there. call-parented w c (call_counted w s) (vpes-parented s (call_counted w s).vpes is)) (λ told'. is) told
       by (Upcall w) still told = upcall-parented w s is told
       by (Resume w) still told = resume-parented w s is

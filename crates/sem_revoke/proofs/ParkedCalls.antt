@@ -34,7 +34,7 @@ use Rattle.sem_msg.specs.Setup.{Setup}
 use Rattle.sem_msg.specs.Lookups.{kernel_of, is_local}
 use Rattle.sem_machine.specs.Sides.{Side, row, cap, job, parked, is_alive, ready, parked_as, unparked, asked, ask_taken, buried, with_slot, drawn, promised}
 use Rattle.sem_machine.specs.Sides.{installed, linked, pending_removed, job_removed, mark_all, unbind_all, job_opened}
-use Rattle.sem_machine.specs.Steps.{Step, plain}
+use Rattle.sem_machine.specs.Steps.{Step, unshown}
 use Rattle.sem_machine.specs.Asks.{target_vpe, promise_freed, call_refused, ask_refused}
 use Rattle.sem_machine.specs.Calls.{next_key, next_place, call_row}
 use Rattle.sem_machine.specs.Revokes.{other_marker, adopted, request_or_adopt, root_spared, all_freed, swept, woken, parent_left, up_told, left_parent}
@@ -299,7 +299,7 @@ module _ (v : ℕ) (B : Type 0) (n : ℕ) where
 
   pub steady-upcall : (T : Setup) (i u : ℕ) (s : Side) → Steady s → Steady (upcall_row T i s u).side
   unfolding upcall_row
-  steady-upcall T i u s S = option-keeps (λ (x : Step). Steady x.side) (λ (a : Ask). ask_decided T i u a (ask_taken u s)) (slice_get (row s u).asks 0) (plain s)
+  steady-upcall T i u s S = option-keeps (λ (x : Step). Steady x.side) (λ (a : Ask). ask_decided T i u a (ask_taken u s)) (slice_get (row s u).asks 0) (unshown s)
       (λ a there. steady-decided T i u a (ask_taken u s) (steady-taken s S u)) S
 
   -- a parked call that goes on

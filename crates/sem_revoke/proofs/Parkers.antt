@@ -17,7 +17,7 @@ use Rattle.sem_msg.specs.Setup.{Setup, IsSetup}
 use Rattle.sem_msg.specs.Lookups.{kernel_of, calls_of}
 use Rattle.sem_machine.specs.Sides.{Side, row, parked, unparked, call_counted, ask_taken, with_inbox}
 use Rattle.sem_machine.specs.Sound.{IsSound, one_if}
-use Rattle.sem_machine.specs.Steps.{Step, plain}
+use Rattle.sem_machine.specs.Steps.{Step, unshown}
 use Rattle.sem_machine.specs.Calls.{call_row}
 use Rattle.sem_machine.specs.Ends.{ended}
 use Rattle.sem_machine.specs.Handles.{handled}
@@ -77,7 +77,7 @@ module _ (T : Setup) (valid : IsSetup T) (i : ℕ) (low : i < T.kernels) (s : Si
   Fewer v t = one_if (parked t v) ≤ one_if (parked s v)
 
   called : (w v : ℕ) → (v ≡ w → ⊥) → kernel_of T w ≡ i → parked s w ≡ None → (o : Option Call) → next_call T s w ≡ o →
-      Fewer v (option_map_or (call_row T i (call_counted w s) w) o (plain s)).side
+      Fewer v (option_map_or (call_row T i (call_counted w s) w) o (unshown s)).side
   called w v other local idle None at = omega arith
   called w v other local idle (Some c) at =
       let t : Side = call_counted w s in
@@ -87,7 +87,7 @@ module _ (T : Setup) (valid : IsSetup T) (i : ℕ) (low : i < T.kernels) (s : Si
 
   -- who exits has no call parked
   exited : (w : ℕ) → kernel_of T w ≡ i → parked s w ≡ None → (o : Option Call) → next_call T s w ≡ o → o ≡ Some Exit →
-      one_if (parked (option_map_or (call_row T i (call_counted w s) w) o (plain s)).side w) ≡ 0
+      one_if (parked (option_map_or (call_row T i (call_counted w s) w) o (unshown s)).side w) ≡ 0
   unfolding call_row
   exited w local idle None at exits = absurd cc
   exited w local idle (Some c) at exits =
@@ -103,7 +103,7 @@ module _ (T : Setup) (valid : IsSetup T) (i : ℕ) (low : i < T.kernels) (s : Si
   unfolding upcall_row
   upcalled w v local = from (slice_get (row s w).asks 0) refl
     where
-      from : (o : Option Ask) → slice_get (row s w).asks 0 ≡ o → Fewer v (option_map_or (λ a. ask_decided T i w a (ask_taken w s)) o (plain s)).side
+      from : (o : Option Ask) → slice_get (row s w).asks 0 ≡ o → Fewer v (option_map_or (λ a. ask_decided T i w a (ask_taken w s)) o (unshown s)).side
       from None at = omega arith
       from (Some a) at =
           (decided-sound T valid i low (ask_taken w s) (taken-sound T valid i low None None None None s sound w local) w local a

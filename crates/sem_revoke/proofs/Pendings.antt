@@ -30,7 +30,7 @@ use Rattle.sem_msg.specs.Setup.{Setup}
 use Rattle.sem_msg.specs.Lookups.{kernel_of, owner_of, place_owner}
 use Rattle.sem_machine.specs.Sides.{Side, row, cap, parked, pending, is_alive, outbox, call_counted, drawn, promised, parked_as, unparked, ask_taken, buried}
 use Rattle.sem_machine.specs.Sides.{linked, freed, send, with_inbox, pending_added, pending_removed}
-use Rattle.sem_machine.specs.Steps.{Step, plain}
+use Rattle.sem_machine.specs.Steps.{Step, unshown}
 use Rattle.sem_machine.specs.Asks.{target_vpe, asker, is_unawaited, promise_freed, call_refused, refusal_sent, ask_refused}
 use Rattle.sem_machine.specs.Calls.{next_key, next_place, call_row}
 use Rattle.sem_machine.specs.Upcalls.{given, given_kind, given_here, ask_decided, upcall_row}
@@ -203,7 +203,7 @@ module _ (T : Setup) (k0 : KeyName) (was : Option Pending) where
   upcall-prepared : (i w : ℕ) (s : Side) → Prepared s → Prepared (upcall_row T i s w).side
   unfolding upcall_row
   upcall-prepared i w s is = option-keeps (λ (y : Step). Prepared y.side) (λ (q : Ask). ask_decided T i w q (ask_taken w s)) (slice_get (row s w).asks 0)
-      (plain s) (λ q there. decided-prepared i w q (ask_taken w s) is) is
+      (unshown s) (λ q there. decided-prepared i w q (ask_taken w s) is) is
 
   resume-prepared : (w : ℕ) (s : Side) → Prepared s → Prepared (resume_row T s w).side
   unfolding resume_row
@@ -304,7 +304,7 @@ module _ (T : Setup) (k0 : KeyName) (was : Option Pending) where
       base = λ p there. inl (sym before ∙ there)
 
       by : (b : Act) → Prepared (local_step T i s b input).side
-      by (Calls w) = option-keeps (λ (y : Step). Prepared y.side) (call_row T i (call_counted w s) w) (next_call T s w) (plain s)
+      by (Calls w) = option-keeps (λ (y : Step). Prepared y.side) (call_row T i (call_counted w s) w) (next_call T s w) (unshown s)
           (λ c there. call-prepared i w c (call_counted w s) base) base
       by (Fetch j) = base
       by (Flush j) = λ p there. inl (sym before ∙ there)

@@ -25,7 +25,7 @@ use Rattle.sem_msg.specs.Lookups.{owner_of, place_owner, kernel_of}
 use Rattle.sem_msg.specs.ParkedStates.{is_ready_with}
 use Rattle.sem_machine.specs.Sides.{Side, row, cap, own, parked, is_alive, parked_as, unparked, ask_taken, drawn, promised, installed, linked, unlinked}
 use Rattle.sem_machine.specs.Sides.{pending_added, pending_removed}
-use Rattle.sem_machine.specs.Steps.{Step, plain}
+use Rattle.sem_machine.specs.Steps.{Step, unshown}
 use Rattle.sem_machine.specs.Asks.{target_vpe, asker}
 use Rattle.sem_machine.specs.Calls.{next_key, next_place, call_row}
 use Rattle.sem_machine.specs.Upcalls.{given, given_kind, given_here, ask_decided, upcall_row}
@@ -118,7 +118,7 @@ module _ (v : ℕ) (k0 : KeyName) (Touched : Type 0) (q : Option Parked) (d : Op
 
   pub quiet-upcall : (T : Setup) (i u : ℕ) (s : Side) → Q s → Q (upcall_row T i s u).side
   unfolding upcall_row
-  quiet-upcall T i u s is = option-keeps (λ (x : Step). Q x.side) (λ (a : Ask). ask_decided T i u a (ask_taken u s)) (slice_get (row s u).asks 0) (plain s)
+  quiet-upcall T i u s is = option-keeps (λ (x : Step). Q x.side) (λ (a : Ask). ask_decided T i u a (ask_taken u s)) (slice_get (row s u).asks 0) (unshown s)
       (λ a there. quiet-decided T i u a (ask_taken u s) (is.asks u a (ask-among u a s there)) (quiet-taken v k0 Touched q d s is u)) is
 
   -- A parked call of another VPE that goes on.

@@ -36,7 +36,7 @@ use Rattle.sem_msg.specs.ParkedStates.{is_ready_with}
 use Rattle.sem_msg.specs.Setup.{Setup, IsSetup}
 use Rattle.sem_msg.specs.Lookups.{kernel_of}
 use Rattle.sem_machine.specs.Sides.{Side, no_side, row, cap, cap_in, own, slot, parked, is_alive, call_counted, unparked, installed, with_inbox, outbox}
-use Rattle.sem_machine.specs.Steps.{Step, plain}
+use Rattle.sem_machine.specs.Steps.{Step, unshown}
 use Rattle.sem_machine.specs.Asks.{asker}
 use Rattle.sem_machine.specs.Calls.{call_row}
 use Rattle.sem_machine.specs.Handles.{handled}
@@ -167,7 +167,7 @@ module _ (T : Setup) (valid : IsSetup T) (J : List Entry) (runs : IsSchedule T J
           let counted : Quiet v k0 Touched q d t = quiet-row v k0 Touched q d s Q u (record (row s u) { next_call = (row s u).next_call + 1 }) (inl refl)
           (λ a among. inl among) in
           let kept : IsSoundSide t = sound.keeps_counted s sound-now u in
-          option-keeps (λ (x : Step). Quiet v k0 Touched q d x.side) (call_row T i t u) (next_call T s u) (plain s)
+          option-keeps (λ (x : Step). Quiet v k0 Touched q d x.side) (call_row T i t u) (next_call T s u) (unshown s)
           (λ c there. quiet-call v k0 Touched q d T i u c t (calls u act) (owns t kept u) counted) Q
       by (Upcall u) act = quiet-upcall v k0 Touched q d T i u s Q
       by (Resume u) act = quiet-resume v k0 Touched q d T u s (resumes u act) Q

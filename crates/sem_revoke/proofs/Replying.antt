@@ -41,7 +41,7 @@ use Rattle.sem_machine.specs.Endpoints.{with_ring}
 use Rattle.sem_machine.specs.Revokes.{revoke_begun, clear_begun}
 use Rattle.sem_machine.specs.Sides.{Side, no_side, row, parked, is_alive, parked_as, unparked, call_counted, drawn, promised, linked, ask_taken, with_endpoint}
 use Rattle.sem_machine.specs.Sides.{installed, cap, with_inbox}
-use Rattle.sem_machine.specs.Steps.{Step, plain, answer, replied, cutting}
+use Rattle.sem_machine.specs.Steps.{Step, unshown, answer, replied, cutting}
 use Rattle.sem_machine.specs.Asks.{target_vpe}
 use Rattle.sem_machine.specs.Calls.{next_key, next_place, call_row, child_made, ask_made, offer_made}
 use Rattle.sem_machine.specs.Upcalls.{ask_decided, upcall_row}
@@ -108,7 +108,7 @@ says-other v act (Some code) other = cond-false (replied_vpe act == v) 1 0 (ne_e
 -- an upcall answers no call
 upcall-silent : (T : Setup) (i u : ℕ) (s : Side) → (upcall_row T i s u).outcome.reply ≡ None
 unfolding upcall_row
-upcall-silent T i u s = option-keeps (λ (x : Step). x.outcome.reply ≡ None) (λ a. ask_decided T i u a (ask_taken u s)) (slice_get (row s u).asks 0) (plain s)
+upcall-silent T i u s = option-keeps (λ (x : Step). x.outcome.reply ≡ None) (λ a. ask_decided T i u a (ask_taken u s)) (slice_get (row s u).asks 0) (unshown s)
     (λ a there. decided-by (λ (x : Step). x.outcome.reply ≡ None) (λ w x is. is) (λ w x is. is) (λ w x is. is) T i u a (ask_taken u s)
     (record {
       nothing = refl;
@@ -175,9 +175,9 @@ module _ (T : Setup) (i v n : ℕ) (s : Side) (unparked' : parked s v ≡ None) 
     child = λ src dst object p held lives. child-good dst object p.key;
     ask = λ dst target lives. ask-good dst target;
     offer = λ src w dst p held lives. offer-good w dst p;
-    revoke = λ src k held lives. parks (cutting k.key (plain (revoke_begun T i v k.key k.mark s))) refl
+    revoke = λ src k held lives. parks (cutting k.key (unshown (revoke_begun T i v k.key k.mark s))) refl
         (steady-revoked v (Unit {0}) n T i v k.key k.mark s (parked-now s (RevokeWait s.next_job) made, λ j. parked-now s (RevokeWait j) made));
-    clear = λ src k held unmarked lives. parks (cutting k.key (plain (clear_begun T i v k.key s))) refl
+    clear = λ src k held unmarked lives. parks (cutting k.key (unshown (clear_begun T i v k.key s))) refl
         (steady-cleared v (Unit {0}) n T i v k.key s (parked-now s (RevokeWait s.next_job) made));
     bound = λ ep src k held lives. answers (answer OkCode (with_endpoint v ep (Some (record { key = k.key; object = k.object; ring = [] })) s))
         (code_number OkCode) refl unparked' made;
@@ -369,7 +369,7 @@ module _ (T : Setup) (valid : IsSetup T) (J : List Entry) (runs : IsSchedule T J
         inbox (Some (from, m)) = steady-handled v B (row s v).next_call T i (with_inbox None s) from m S
 
         by : (a : Act) → e.event.act ≡ a → Steady v B (row s v).next_call (local_step T i s a (input_of W i a)).side
-        by (Calls u) act = option-keeps (λ (y : Step). Steady v B (row s v).next_call y.side) (call_row T i (call_counted u s) u) (next_call T s u) (plain s)
+        by (Calls u) act = option-keeps (λ (y : Step). Steady v B (row s v).next_call y.side) (call_row T i (call_counted u s) u) (next_call T s u) (unshown s)
             (λ c there. steady-call v B (row s v).next_call T i u c (call_counted u s) (calls u act) (counted u (calls u act))) S
         by (Resume u) act = steady-resume v B (row s v).next_call T u s (λ same b. resumes u act same) S
         by (Upcall u) act = steady-upcall v B (row s v).next_call T i u s S
@@ -433,8 +433,8 @@ module _ (T : Setup) (valid : IsSetup T) (J : List Entry) (runs : IsSchedule T J
       resumed-one (Some p) some = refl
 
       called : (act : e.event.act ≡ Calls v) (o : Option Call) → next_call T s v ≡ o → is_some o ≡ true →
-          is_alive (option_map_or (call_row T i (call_counted v s) v) o (plain s)).side v ≡ true
-          → let y : Step = option_map_or (call_row T i (call_counted v s) v) o (plain s) in
+          is_alive (option_map_or (call_row T i (call_counted v s) v) o (unshown s)).side v ≡ true
+          → let y : Step = option_map_or (call_row T i (call_counted v s) v) o (unshown s) in
           (r + says v (Calls v) y.outcome.reply) + one (parked y.side v) ≡ (row y.side v).next_call
       called act None at-none none lives' = absurd cc
       called act (Some c) at-some some lives' =

@@ -44,7 +44,7 @@ use Rattle.sem_msg.specs.Lookups.{kernel_of, owner_of, place_owner, denies, serv
 use Rattle.sem_msg.specs.declared.code.Code.TheVariants.{NoCap, Refused, Dead, NoService, BadKind}
 use Rattle.sem_machine.specs.Sides.{Side, row, cap, own, endpoint, parked, pending, is_alive, with_row, with_slot, drawn, promised, parked_as, unparked, asked}
 use Rattle.sem_machine.specs.Sides.{ask_taken, buried, linked, installed, cap_added, pending_removed, freed, ready, send}
-use Rattle.sem_machine.specs.Steps.{Step, plain, answer}
+use Rattle.sem_machine.specs.Steps.{Step, unshown, answer}
 use Rattle.sem_machine.specs.Asks.{asker, target_vpe, is_unawaited, waits_for, ask_refused, call_refused, promise_freed, refusal_sent}
 use Rattle.sem_key.specs.Region.{has_key, region, children_of}
 use Rattle.sem_machine.specs.Revokes.{begin, waiter_added, revoke_begun, request_or_adopt, opened}
@@ -349,7 +349,7 @@ module _ (pend : ℕ → KeyName → KeyName → Type 0) (base : Side) where
       Calm (consented T i v a t)
   consented-q T i v (ObtainAsk place target) t waits Q =
       unless-keeps Calm (source_tests target (source T t v target)) _ _ (λ code _. refused-q T i code (ObtainAsk place target) t waits Q)
-      (option-keeps Calm (child_given T i place target t) (source T t v target) (plain t) (λ p held. child_given-q T i place target t p Q) (λ _. Q))
+      (option-keeps Calm (child_given T i place target t) (source T t v target) (unshown t) (λ p held. child_given-q T i place target t p Q) (λ _. Q))
   consented-q T i v (DelegateAsk parent object sel) t waits Q =
       cond_both (kernel_of T parent.vpe == i) _ _ Calm
       (λ here. unless-keeps Calm (parent_tests (cap t parent) ++ destination_tests t v sel) _ _
@@ -360,7 +360,7 @@ module _ (pend : ℕ → KeyName → KeyName → Type 0) (base : Side) where
 
   pub upcall-q : (T : Setup) (i : ℕ) (t : Side) (v : ℕ) → Quiet t → Calm (upcall_row T i t v)
   unfolding upcall_row
-  upcall-q T i t v Q = option-keeps Calm (λ (a : Ask). ask_decided T i v a (ask_taken v t)) (slice_get (row t v).asks 0) (plain t)
+  upcall-q T i t v Q = option-keeps Calm (λ (a : Ask). ask_decided T i v a (ask_taken v t)) (slice_get (row t v).asks 0) (unshown t)
       (λ a there. decided a (ask_taken v t) (kept-q t v (λ r. record r { asks = drop 1 r.asks }) (λ down. down) Q)) (λ _. Q)
     where
       decided : (a : Ask) (u : Side) → Quiet u → Calm (ask_decided T i v a u)

@@ -21,7 +21,7 @@ use Rattle.sem_msg.specs.JobRows.{job_of}
 use Rattle.sem_msg.specs.Setup.{Setup, IsSetup}
 use Rattle.sem_msg.specs.Lookups.{owner_of, pe_owner}
 use Rattle.sem_machine.specs.Sides.{Side, no_side, with_inbox, job, call_counted, sent}
-use Rattle.sem_machine.specs.Steps.{Step, plain}
+use Rattle.sem_machine.specs.Steps.{Step, unshown}
 use Rattle.sem_machine.specs.Ends.{ended}
 use Rattle.sem_machine.specs.Calls.{call_row}
 use Rattle.sem_machine.specs.Machine.{World, side, link, with_side, with_link, input_of, is_other_kernel, start, start_side, empty_side, root_added, vpe_fresh}
@@ -120,7 +120,7 @@ module _ (T : Setup) (gs : List (KeyName × KeyName)) (W : World) (R : IsReady T
       Holds T (gs ++ option_to_list (stepped T W (event i a)).outcome.grant) (after T W (event i a))
   unfolding after local_step
   event-holds (Calls v) loses enabled told =
-      (option-keeps (Keeps T gs W R H L i) (call_row T i (call_counted v now) v) (next_call T now v) (plain now)
+      (option-keeps (Keeps T gs W R H L i) (call_row T i (call_counted v now) v) (next_call T now v) (unshown now)
       (λ c there. by-call T gs W R H L i v c (loses c there)) (λ _. row-step T gs W R H L i now (in_row T gs W R H L i))
       (facts-of (Calls v) (stepped T W (event i (Calls v))) refl told (λ k. after-lives k all_held T W i (Calls v)))).0
   event-holds (Upcall v) loses enabled told =

@@ -27,7 +27,7 @@ use Rattle.sem_msg.specs.Setup.{Setup, IsSetup}
 use Rattle.sem_msg.specs.Lookups.{kernel_of, owner_of, service_named, denies}
 use Rattle.sem_msg.specs.declared.code.Code.TheVariants.{NoCap, NoService, BadKind}
 use Rattle.sem_machine.specs.Sides.{Side, no_side, row, cap, cap_in, own, slot, endpoint, parked, is_alive, call_counted, ask_taken, unparked, with_inbox, sent}
-use Rattle.sem_machine.specs.Steps.{Step, plain, answer, cutting}
+use Rattle.sem_machine.specs.Steps.{Step, unshown, answer, cutting}
 use Rattle.sem_machine.specs.Calls.{own_tests, destination_tests, derive_tests, gate_tests, ask_made, obtain_tests, open_tests, offer_tests, delegate_tests}
 use Rattle.sem_machine.specs.Calls.{bind_tests, call_row}
 use Rattle.sem_msg.specs.Uses.{memory_tests, send_tests, credit_tests}
@@ -51,7 +51,7 @@ use Rattle.sem_machine.specs.Safety.{revoked_is_gone}
 use Rattle.sem_key.proofs.KeyTests.{key_eq-same, key_eq-true, Contains-from_has_key, has_key-from_Contains}
 use Rattle.sem_key.proofs.Members.{found, Contains-nil, Contains-cons_cases, Contains-from_filter, Contains-map, Contains-from_map, Contains-from_flat_map}
 use Rattle.sem_key.proofs.Puts.{get_or-put_other}
-use Rattle.sem_safety.specs.History.{History, no_history, note, history, cut_at, call_by, replies_to, succeeds}
+use Rattle.sem_safety.specs.History.{History, no_history, note, history, cut_at, call_by, replies_to, replies_ok}
 use Rattle.sem_machine.specs.Sound.{IsSound}
 use Rattle.sem_msg.specs.declared.state.Slot.{Slot}
 use Rattle.sem_msg.specs.declared.state.Slot.TheVariants.{Free, Held, Promised}
@@ -130,12 +130,12 @@ module _ (T : Setup) (i : ℕ) (s : Side) (gs : List (KeyName × KeyName)) (pend
       GoalOf : Option Call → Type 0
       GoalOf o = ((w : ℕ) (k r : KeyName) →
           pend w k r ⊎ BeginsAt (Calls v) (option_map_or (λ call. Called (row s v).next_call call) o Nothing)
-          (option_map_or (call_row T i (call_counted v s) v) o (plain s)).outcome.cut w k r
-          → Resting None (option_map_or (call_row T i (call_counted v s) v) o (plain s)).side k r w
-          (parked (option_map_or (call_row T i (call_counted v s) v) o (plain s)).side w))
-          × AreKept T i s gs pend R apart owns drawn_marks (option_map_or (call_row T i (call_counted v s) v) o (plain s)).side
+          (option_map_or (call_row T i (call_counted v s) v) o (unshown s)).outcome.cut w k r
+          → Resting None (option_map_or (call_row T i (call_counted v s) v) o (unshown s)).side k r w
+          (parked (option_map_or (call_row T i (call_counted v s) v) o (unshown s)).side w))
+          × AreKept T i s gs pend R apart owns drawn_marks (option_map_or (call_row T i (call_counted v s) v) o (unshown s)).side
 
-      from : (o : Option Call) → Fresh T i s gs pend R apart owns drawn_marks (option_map_or (call_row T i (call_counted v s) v) o (plain s)) → GoalOf o
+      from : (o : Option Call) → Fresh T i s gs pend R apart owns drawn_marks (option_map_or (call_row T i (call_counted v s) v) o (unshown s)) → GoalOf o
       from None fresh' = (
         λ w k r which. elim which [ inl pends ↦ R.rests w k r pends | inr (is, cuts, among) ↦ (let two : None ≡ Some r = cuts in absurd cc) ],
         R.keepers,
@@ -262,7 +262,7 @@ call-cut T i s v (OpenSession dst name) = unless-keeps (CutHeld s) (open_tests T
 call-cut T i s v (AskOffer dst session index) = unless-keeps (CutHeld s) (offer_tests T i s v dst session) _ _ (λ code k some. absurd cc)
     (option-keeps (CutHeld s) (λ (k : KeyName). ask_made T i v dst (OfferTarget k index) s) _ (answer BadKind s) (λ q there k some. absurd cc)
     (λ k some. absurd cc))
-call-cut T i s v (Revoke src) = option-keeps (CutHeld s) (λ (c : Capability). cutting c.key (plain (revoke_begun T i v c.key c.mark s))) (own s v src)
+call-cut T i s v (Revoke src) = option-keeps (CutHeld s) (λ (c : Capability). cutting c.key (unshown (revoke_begun T i v c.key c.mark s))) (own s v src)
     (answer NoCap s) (λ c held k some. (c, ap (cap s) (sym (same_Some c.key k some)) ∙ own-cap s v src c held)) (λ k some. absurd cc)
 call-cut T i s v (Bind ep src) = unless-keeps (CutHeld s) (bind_tests s v src) _ _ (λ code k some. absurd cc)
     (option-keeps (CutHeld s) _ (own s v src) (answer NoCap s) (λ p held k some. absurd cc) (λ k some. absurd cc))
@@ -272,12 +272,12 @@ call-cut T i s v (SendCall ep len) = unless-keeps (CutHeld s) (send_tests (endpo
 call-cut T i s v (Credit ep) = unless-keeps (CutHeld s) (credit_tests (endpoint s v ep)) _ _ (λ code k some. absurd cc) (λ k some. absurd cc)
 call-cut T i s v Exit = λ k some. absurd cc
 call-cut T i s v (Clear src) = unless-keeps (CutHeld s) (own_tests (own s v src)) _ _ (λ code k some. absurd cc)
-    (option-keeps (CutHeld s) (λ (c : Capability). cutting c.key (plain (clear_begun T i v c.key s))) (own s v src) (answer NoCap s)
+    (option-keeps (CutHeld s) (λ (c : Capability). cutting c.key (unshown (clear_begun T i v c.key s))) (own s v src) (answer NoCap s)
     (λ c held k some. (c, ap (cap s) (sym (same_Some c.key k some)) ∙ own-cap s v src c held)) (λ k some. absurd cc))
 
 pub step-cut : (T : Setup) (i : ℕ) (s : Side) (v : ℕ) (input : Option Message) → CutHeld s (local_step T i s (Calls v) input)
 unfolding local_step
-step-cut T i s v input = option-keeps (CutHeld s) (call_row T i (call_counted v s) v) (next_call T s v) (plain s)
+step-cut T i s v input = option-keeps (CutHeld s) (call_row T i (call_counted v s) v) (next_call T s v) (unshown s)
     (λ c there. call-cut T i (call_counted v s) v c) (λ k some. absurd cc)
 
 pub enabled-call : (T : Setup) (i : ℕ) (s : Side) (v : ℕ) → is_locally_enabled T i s (Calls v) ≡ true → (kernel_of T v ≡ i) × (is_alive s v ≡ true)
@@ -305,12 +305,12 @@ Silent x = ◌≡◌ {A = Option ℕ} x.outcome.reply None
 
 upcall-silent : (T : Setup) (i : ℕ) (s : Side) (v : ℕ) → Silent (upcall_row T i s v)
 unfolding upcall_row
-upcall-silent T i s v = option-keeps Silent (λ (a : Ask). ask_decided T i v a (ask_taken v s)) (slice_get (row s v).asks 0) (plain s)
+upcall-silent T i s v = option-keeps Silent (λ (a : Ask). ask_decided T i v a (ask_taken v s)) (slice_get (row s v).asks 0) (unshown s)
     (λ a there. decided a (ask_taken v s)) refl
   where
     consents : (a : Ask) (t : Side) → Silent (consented T i v a t)
     consents (ObtainAsk place target) t = unless-keeps Silent (source_tests target (source T t v target)) _ _ (λ code. refl)
-        (option-keeps Silent (child_given T i place target t) (source T t v target) (plain t) (λ p held. refl) refl)
+        (option-keeps Silent (child_given T i place target t) (source T t v target) (unshown t) (λ p held. refl) refl)
     consents (DelegateAsk parent object sel) t =
         cond_both (kernel_of T parent.vpe == i) _ _ Silent (λ _. unless-keeps Silent (parent_tests (cap t parent) ++ destination_tests t v sel) _ _
         (λ code. refl) refl) (λ _. unless-keeps Silent (destination_tests t v sel) _ _ (λ code. refl) refl)
@@ -576,7 +576,7 @@ module _ (T : Setup) (valid : IsSetup T) where
     ]
 
     -- a call that is answered with success has what it cut off gone
-    served-now : (v : ℕ) (k r : KeyName) → Waits T before v k r → replies_to e v ≡ true → succeeds e ≡ true → at_world k all_held W ≡ 0
+    served-now : (v : ℕ) (k r : KeyName) → Waits T before v k r → replies_to e v ≡ true → replies_ok e ≡ true → at_world k all_held W ≡ 0
     served-now v k r w yes' well =
         elim (act-replies T i s e.event.act (input_of W i e.event.act) v (ap (λ o. option_map_or (λ (r : Reply). r.vpe == v) o false) (sym told.reply) ∙ yes')) [
           | inl calls ↦
@@ -661,13 +661,13 @@ module _ (T : Setup) (valid : IsSetup T) where
         | inl old ↦ let w = S.rest v ks k old.0 cuts in (w.0, waits-on v k w.0 w.1 old.1)
         | inr now' ↦ let r = new-wait e.event.act e.detail e.cut gs v ks k now' cuts in (r.0, waits-new v k r.0 (r.1, r.2, r.3))
       ];
-      done = λ k among. elim (Contains-append_cases h.answered (flat_map (λ w. w.1) (filter (λ w. replies_to e w.0 && succeeds e) h.waiting)) k
+      done = λ k among. elim (Contains-append_cases h.answered (flat_map (λ w. w.1) (filter (λ w. replies_to e w.0 && replies_ok e) h.waiting)) k
           (subst (λ (H : History). Contains H.answered k) hist among)) [
             | inl old ↦ let is = S.done k old in (on k is.0, not-alive k is.0 is.1)
             | inr now' ↦
-                let w = Contains-from_flat_map (λ (w : ℕ × List KeyName). w.1) (filter (λ w. replies_to e w.0 && succeeds e) h.waiting) k now' in
-                let kept = Contains-from_filter (λ (w : ℕ × List KeyName). replies_to e w.0 && succeeds e) h.waiting w.0 w.1 in
-                let both = and_parts (replies_to e w.0.0) (succeeds e) kept.1 in
+                let w = Contains-from_flat_map (λ (w : ℕ × List KeyName). w.1) (filter (λ w. replies_to e w.0 && replies_ok e) h.waiting) k now' in
+                let kept = Contains-from_filter (λ (w : ℕ × List KeyName). replies_to e w.0 && replies_ok e) h.waiting w.0 w.1 in
+                let both = and_parts (replies_to e w.0.0) (replies_ok e) kept.1 in
                 let waits' = S.rest w.0.0 w.0.1 k kept.0 w.2 in
                 (on k waits'.1.cut_made, not-alive k waits'.1.cut_made (served-now w.0.0 k waits'.0 waits'.1 both.0 both.1))
           ];

@@ -26,7 +26,7 @@ use Rattle.sem_msg.specs.Lookups.{owner_of}
 use Rattle.sem_msg.specs.declared.code.Code.TheVariants.{NoCap}
 use Rattle.sem_machine.specs.Sides.{Side, no_side, cap, own, parked, pending, outbox, is_alive, call_counted, pending_removed, send, sent, with_inbox}
 use Rattle.sem_machine.specs.Sides.{installed, job}
-use Rattle.sem_machine.specs.Steps.{Step, plain, answer, cutting}
+use Rattle.sem_machine.specs.Steps.{Step, unshown, answer, cutting}
 use Rattle.sem_key.specs.Region.{has_key}
 use Rattle.sem_machine.specs.Revokes.{obtain_cancelled, ready_freed, revoke_begun, clear_begun}
 use Rattle.sem_machine.specs.Ends.{ended}
@@ -111,7 +111,7 @@ module _ (T : Setup) (gs : List (KeyName × KeyName)) (W : World) (R : IsReady T
 
   -- a side that nothing is granted in
   abbrev Kept : Side → Type 0
-  Kept t = Facts (plain t) → Holds T gs (with_side i t W) × Sends None (with_inbox None now) t
+  Kept t = Facts (unshown t) → Holds T gs (with_side i t W) × Sends None (with_inbox None now) t
 
   -- the same, once the message was taken out
   abbrev pub there : Scene
@@ -186,7 +186,7 @@ module _ (T : Setup) (gs : List (KeyName × KeyName)) (W : World) (R : IsReady T
   by-call v (Delegate src w dst) loses = plain-call v (Delegate src w dst) tt
   by-call v (OpenSession dst name) loses = plain-call v (OpenSession dst name) tt
   by-call v (AskOffer dst session index) loses = plain-call v (AskOffer dst session index) tt
-  by-call v (Revoke src) loses = option-keeps Keeps (λ (c : Capability). cutting c.key (plain (revoke_begun T i v c.key c.mark (call_counted v now))))
+  by-call v (Revoke src) loses = option-keeps Keeps (λ (c : Capability). cutting c.key (unshown (revoke_begun T i v c.key c.mark (call_counted v now))))
       (own (call_counted v now) v src) (answer NoCap (call_counted v now))
       (λ c held _. row-step (revoke_begun T i v c.key c.mark (call_counted v now))
       (row-revoked here v c.key (call_counted v now) c (own-cap (call_counted v now) v src c held) (loses c held) (counted-row v)))
@@ -197,7 +197,7 @@ module _ (T : Setup) (gs : List (KeyName × KeyName)) (W : World) (R : IsReady T
   by-call v (SendCall ep len) loses = plain-call v (SendCall ep len) tt
   by-call v (Credit ep) loses = plain-call v (Credit ep) tt
   by-call v (Clear src) loses = unless-passed Keeps (own_tests (own (call_counted v now) v src)) _ _ (λ code _. row-step (call_counted v now) (counted-row v))
-      (λ passed. option-keeps Keeps (λ (c : Capability). cutting c.key (plain (clear_begun T i v c.key (call_counted v now)))) (own (call_counted v now) v src)
+      (λ passed. option-keeps Keeps (λ (c : Capability). cutting c.key (unshown (clear_begun T i v c.key (call_counted v now)))) (own (call_counted v now) v src)
       (answer NoCap (call_counted v now))
       (λ c held _. row-step (clear_begun T i v c.key (call_counted v now))
       (row-cleared here v c.key (call_counted v now) c (own-cap (call_counted v now) v src c held)

@@ -38,7 +38,7 @@ use Rattle.sem_msg.specs.Lookups.{kernel_of, service_named}
 use Rattle.sem_msg.specs.Uses.{memory_tests, send_tests, credit_tests}
 use Rattle.sem_machine.specs.Sides.{Side, row, cap, own, parked, pending, is_alive, call_counted, drawn, promised, parked_as, unparked, asked, ask_taken}
 use Rattle.sem_machine.specs.Sides.{buried, linked, installed, with_slot, send, endpoint, pending_removed}
-use Rattle.sem_machine.specs.Steps.{Step, plain, answer}
+use Rattle.sem_machine.specs.Steps.{Step, unshown, answer}
 use Rattle.sem_machine.specs.Asks.{target_vpe, asker, is_unawaited, promise_freed, ask_refused, refusal_sent}
 use Rattle.sem_machine.specs.Calls.{next_place, next_key, child_made, narrowed, session_service, own_tests, derive_tests, gate_tests, ask_made, is_local_dead}
 use Rattle.sem_machine.specs.Calls.{is_service_dead, object_passes, service_passes, obtain_tests, open_tests, offer_tests, offer_made, delegate_tests}
@@ -263,7 +263,7 @@ module _ (T : Setup) (i : ℕ) where
 
   pub upcall-unasked : (v : ℕ) (s : Side) → Unasked s → Unasked (upcall_row T i s v).side
   unfolding upcall_row
-  upcall-unasked v s is = option-keeps Q (λ (a : Ask). ask_decided T i v a (ask_taken v s)) (slice_get (row s v).asks 0) (plain s)
+  upcall-unasked v s is = option-keeps Q (λ (a : Ask). ask_decided T i v a (ask_taken v s)) (slice_get (row s v).asks 0) (unshown s)
       (λ a there. decided-unasked v a (ask_taken v s) (taken-kept s v is)) is
 
   -- Parked calls that go on.

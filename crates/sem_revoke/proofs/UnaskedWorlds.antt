@@ -12,7 +12,7 @@ use Rattle.sem_msg.specs.Rows.{no_vpe}
 use Rattle.sem_msg.specs.Setup.{Setup}
 use Rattle.sem_msg.specs.Lookups.{own_vpes}
 use Rattle.sem_machine.specs.Sides.{call_counted, with_inbox}
-use Rattle.sem_machine.specs.Steps.{Step, plain}
+use Rattle.sem_machine.specs.Steps.{Step, unshown}
 use Rattle.sem_machine.specs.Calls.{call_row}
 use Rattle.sem_machine.specs.Handles.{handled}
 use Rattle.sem_machine.specs.Machine.{World, side, start, start_side, empty_side, vpe_added, next_call, local_step, after, event}
@@ -41,7 +41,7 @@ module _ (T : Setup) where
   stepped-unasked : (W : World) (i : ℕ) (a : Act) → Unasked (side W i) → Unasked (stepped T W (event i a)).side
   unfolding local_step
   stepped-unasked W i (Calls v) is = option-keeps (λ (x : Step). Unasked x.side) (call_row T i (call_counted v (side W i)) v) (next_call T (side W i) v)
-      (plain (side W i)) (λ c there. call-unasked T i v (call_counted v (side W i)) (counted-kept (side W i) v is) c) is
+      (unshown (side W i)) (λ c there. call-unasked T i v (call_counted v (side W i)) (counted-kept (side W i) v is) c) is
   stepped-unasked W i (Upcall v) is = upcall-unasked T i v (side W i) is
   stepped-unasked W i (Resume v) is = resume-unasked T i v (side W i) is
   stepped-unasked W i (Kill v) is = ended-unasked T i v (side W i) is

@@ -193,18 +193,18 @@ marked_below_roots T J =
     → (k ≡ x.root) ⊎ HasMarkedParent J (world_after T J) i j k
 
 -- the VPE, if it lives, waits for the answer to the obtain that drew that place
-abbrev pub IsAwaited : Setup → World → PlaceName → Type 0
-IsAwaited T W place = is_alive (side W (kernel_of T place.vpe)) place.vpe ≡ true →
+abbrev pub IsPlaceAwaited : Setup → World → PlaceName → Type 0
+IsPlaceAwaited T W place = is_alive (side W (kernel_of T place.vpe)) place.vpe ≡ true →
     (sel : ℕ) × (parked (side W (kernel_of T place.vpe)) place.vpe ≡ Some (ObtainWait place.number sel))
 
 -- a queued or travelling ask of an obtain is awaited
 abbrev pub asks_awaited : Setup → List Entry → Type 0
 asks_awaited T J = (i u : ℕ) (place : PlaceName) (target : Target) →
-    Contains (row (side (world_after T J) i) u).asks (ObtainAsk place target) → IsAwaited T (world_after T J) place
+    Contains (row (side (world_after T J) i) u).asks (ObtainAsk place target) → IsPlaceAwaited T (world_after T J) place
 
 abbrev pub requests_awaited : Setup → List Entry → Type 0
 requests_awaited T J = (place : PlaceName) (target : Target) → InFlight (world_after T J) (ObtainReq place target) →
-    IsAwaited T (world_after T J) place
+    IsPlaceAwaited T (world_after T J) place
 
 -- a message in flight stays in flight after one more entry, unless that entry handles it
 abbrev pub flights_go_on : Setup → List Entry → Type 0

@@ -28,12 +28,12 @@ abbrev pub obtained_key : ℕ → KeyName
 obtained_key n = record { pe = 1; vpe = 1; kind = MemKind; number = n }
 
 -- kernel 1 asks kernel 0 for VPE 1, and VPE 0 gives
-abbrev pub asked : List Event
-asked = event 1 (Calls 1) ∷ event 1 (Flush 0) ∷ event 0 (Fetch 1) ∷ event 0 Handle ∷ event 0 (Upcall 0) ∷ []
+abbrev pub ask_events : List Event
+ask_events = event 1 (Calls 1) ∷ event 1 (Flush 0) ∷ event 0 (Fetch 1) ∷ event 0 Handle ∷ event 0 (Upcall 0) ∷ []
 
 -- the child arrives, and is installed
-abbrev pub installed : List Event
-installed = event 0 (Flush 1) ∷ event 1 (Fetch 0) ∷ event 1 Handle ∷ event 1 (Resume 1) ∷ []
+abbrev pub install_events : List Event
+install_events = event 0 (Flush 1) ∷ event 1 (Fetch 0) ∷ event 1 Handle ∷ event 1 (Resume 1) ∷ []
 
 -- VPE 0 revokes or clears: kernel 1 gets the request, does it, and VPE 0 has its answer
 abbrev pub recalled : List Event
@@ -44,16 +44,16 @@ recalled =
 -- the journal up to the grant of the part, to the bind, to the answer of the revoke, and to that of
 -- the clear
 abbrev pub to_grant : List Event
-to_grant = event 0 (Calls 0) ∷ asked
+to_grant = event 0 (Calls 0) ∷ ask_events
 
 abbrev pub to_bind : List Event
-to_bind = to_grant ++ installed ++ event 1 (Calls 1) ∷ []
+to_bind = to_grant ++ install_events ++ event 1 (Calls 1) ∷ []
 
 abbrev pub to_revoke : List Event
 to_revoke = to_bind ++ recalled
 
 abbrev pub to_clear : List Event
-to_clear = to_revoke ++ asked ++ installed ++ recalled
+to_clear = to_revoke ++ ask_events ++ install_events ++ recalled
 
 abbrev pub sample_journal : List Event → List Entry
 sample_journal es = journal_of sample es

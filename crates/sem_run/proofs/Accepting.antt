@@ -16,13 +16,13 @@ use Rattle.sem_journal.specs.ReportText.{report_text}
 use Rattle.sem_report.specs.declared.verdict.Verdict.{Verdict}
 use Rattle.sem_report.specs.declared.verdict.Verdict.TheVariants.{Accepted, BadLine, BadEntry, NotOver, BadAudit}
 use Rattle.sem_report.specs.WholeLines.{whole_lines}
-use Rattle.sem_report.specs.Audited.{audited, differing_line}
+use Rattle.sem_report.specs.Audited.{audited, first_wrong_line}
 use Rattle.sem_trace.specs.Forms.{whole_line}
 use Rattle.sem_trace.specs.LineErrors.{fault_of}
 use Rattle.sem_report.specs.ReportRefusal.{first_difference, report_refusal}
 use Rattle.sem_report.specs.ReportRanges.{ReportFits}
 use Rattle.sem_report.proofs.PrintedReport.{same_lines}
-use Rattle.sem_audit.specs.HeldKeys.{held, report, IsAuditOf}
+use Rattle.sem_audit.specs.HeldKeys.{keys_held, report, IsAuditOf}
 use Rattle.sem_check.specs.Replays.{DiffersAt}
 use Rattle.sem_check.specs.Verdicts.{GoesOn}
 use Rattle.sem_cli.specs.Refusals.{bad_line, differing_line as differing_entry, going_on_line}
@@ -34,7 +34,7 @@ use Rattle.sem_run.specs.Reports.{IsReport, TellsReport, TellsComplete, IsVerdic
 
 -- the report of a schedule can be told
 pub report-fits : (T : Setup) → IsSetup T → (J : List Entry) → IsSchedule T J →
-    ReportFits T J (length (made T J)) (length (cut T J)) (held (world_after T J).sides)
+    ReportFits T J (length (made T J)) (length (cut T J)) (keys_held (world_after T J).sides)
 report-fits T valid J runs = record {
   trace = valid;
   entries = entries-fit T valid J runs;
@@ -60,11 +60,11 @@ no-others bytes (NotOver journal next) found told = absurd (false≢true told)
 no-others bytes (BadAudit line due) found told = absurd (false≢true told)
 
 module _
-    (read : (T : Setup) (J : List Entry) (made cut : ℕ) (held : List (KeyName × ℕ)) → ReportFits T J made cut held →
-    length (report_text T J made cut held) ≤ 134217728 → report_refusal (report_text T J made cut held) ≡ None)
-    (one : (T U : Setup) (J K : List Entry) (made cut made' cut' : ℕ) (held held' : List (KeyName × ℕ)) → ReportFits T J made cut held →
-    ReportFits U K made' cut' held' → report_text T J made cut held ≡ report_text U K made' cut' held' → (T ≡ U) × (J ≡ K) × (made ≡ made') × (cut ≡ cut')
-    × (held ≡ held'))
+    (read : (T : Setup) (J : List Entry) (made cut : ℕ) (keys_held : List (KeyName × ℕ)) → ReportFits T J made cut keys_held →
+    length (report_text T J made cut keys_held) ≤ 134217728 → report_refusal (report_text T J made cut keys_held) ≡ None)
+    (one : (T U : Setup) (J K : List Entry) (made cut made' cut' : ℕ) (keys_held held' : List (KeyName × ℕ)) → ReportFits T J made cut keys_held →
+    ReportFits U K made' cut' held' → report_text T J made cut keys_held ≡ report_text U K made' cut' held' → (T ≡ U) × (J ≡ K) × (made ≡ made') × (cut ≡ cut')
+    × (keys_held ≡ held'))
     (no-difference : (T : Setup) (J : List Entry) (n : ℕ) (x : Entry) (a : Option Entry) → DiffersAt T J n x a → ¬ IsSchedule T J)
     (not-quiet : (T : Setup) (J : List Entry) (n : ℕ) (x : Entry) → GoesOn T J n x → ¬ IsQuiet T (world_after T J)) where
   -- no line of it is bad
@@ -95,7 +95,7 @@ module _
       let is : bytes ≡ report T J = r.spelled ∙ (ap (λ t. report t r.entries) same.0 ∙ ap (report T) same.1) in
       let due-report : audited T J due ≡ report T J = rw (tells.audit.made, tells.audit.cut, tells.audit.held) refl in
       let same-text : audited T J due ≡ bytes = due-report ∙ sym is in
-      let none : differing_line bytes T J due ≡ None = ap (λ x. first_difference 1 (whole_lines bytes) (whole_lines x)) same-text
+      let none : first_wrong_line bytes T J due ≡ None = ap (λ x. first_difference 1 (whole_lines bytes) (whole_lines x)) same-text
       ∙ same_lines 1 (whole_lines bytes) in
       absurd (none-some line (sym none ∙ differs))
 
@@ -130,22 +130,22 @@ module _
 
     -- the line that differs from the report of what is told
     differs-from : (T : Setup) (J : List Entry) (due : Audit) → IsAuditOf T J due →
-        differing_line bytes T J due ≡ first_difference 1 (whole_lines bytes) (whole_lines (report T J))
+        first_wrong_line bytes T J due ≡ first_difference 1 (whole_lines bytes) (whole_lines (report T J))
     differs-from T J due audit = rw (audit.made, audit.cut, audit.held) refl
 
     one-audit : (T U : Setup) (J K : List Entry) (due due' : Audit) (line : ℕ) → TellsComplete bytes T J due → TellsComplete bytes U K due' →
-        differing_line bytes T J due ≡ Some line → differing_line bytes U K due' ≡ Some line
+        first_wrong_line bytes T J due ≡ Some line → first_wrong_line bytes U K due' ≡ Some line
     one-audit T U J K due due' line tells other differs =
         let same = same-told bytes T U J K tells.tells other.tells in
         let reports : report T J ≡ report U K = ap (report T) same.1 ∙ ap (λ t. report t K) same.0 in
         differs-from U K due' other.audit ∙ (ap (λ x. first_difference 1 (whole_lines bytes) (whole_lines x)) (sym reports)
         ∙ (sym (differs-from T J due tells.audit) ∙ differs))
 
-    audit-or-report : (T U : Setup) (J K : List Entry) (due due' : Audit) (line : ℕ) → TellsComplete bytes T J due → differing_line bytes T J due ≡ Some line →
+    audit-or-report : (T U : Setup) (J K : List Entry) (due due' : Audit) (line : ℕ) → TellsComplete bytes T J due → first_wrong_line bytes T J due ≡ Some line →
         TellsComplete bytes U K due' → bytes ≡ report U K → ⊥
     audit-or-report T U J K due due' line tells differs other is =
-        let there : differing_line bytes U K due' ≡ Some line = one-audit T U J K due due' line tells other differs in
-        let none : differing_line bytes U K due' ≡ None = differs-from U K due' other.audit
+        let there : first_wrong_line bytes U K due' ≡ Some line = one-audit T U J K due due' line tells other differs in
+        let none : first_wrong_line bytes U K due' ≡ None = differs-from U K due' other.audit
         ∙ (ap (λ x. first_difference 1 (whole_lines bytes) (whole_lines x)) (sym is) ∙ same_lines 1 (whole_lines bytes)) in
         none-some line (sym none ∙ there)
 

@@ -6,7 +6,7 @@ use Rattle.sem_msg.specs.declared.entry.Entry.{Entry}
 use Rattle.sem_msg.specs.Audits.{held_pairs}
 use Rattle.sem_msg.specs.Setup.{Setup}
 use Rattle.sem_machine.specs.Living.{IsComplete}
-use Rattle.sem_report.specs.Audited.{audited, AuditFits, differing_line}
+use Rattle.sem_report.specs.Audited.{audited, AuditFits, first_wrong_line}
 use Rattle.sem_report.proofs.TraceInReport.{same_text}
 use Rattle.sem_audit.specs.HeldKeys.{report, IsAuditOf}
 use Rattle.sem_run.specs.Reports.{TellsReport, TellsComplete}
@@ -36,5 +36,5 @@ module _ (bytes : List ℕ) (T : Setup) (J : List Entry) (told : Audit) (tells :
     pub due-fits : AuditFits T J due
     due-fits = rw (audit.made, audit.cut, audit.held) (report-fits T tells.fits.trace J complete.schedule)
 
-    pub is-report : None ≡ differing_line bytes T J due → bytes ≡ report T J
+    pub is-report : None ≡ first_wrong_line bytes T J due → bytes ≡ report T J
     is-report same = same_text 1 bytes (audited T J due) same ∙ due-report

@@ -30,7 +30,7 @@ use Rattle.sem_run.specs.Inputs.{Given, Asks, IsUntouched, ReadsFront, ReadsTrac
 use Rattle.sem_run.specs.Reports.{IsVerdict, is_accepted, verdict_line}
 use Rattle.sem_run.specs.declared.findings.Finding.{Finding}
 use Rattle.sem_run.specs.Findings.{IsFound, IfAccepted, IsOf, IsAskable}
-use Rattle.sem_run.specs.Readings.{Tells, IsVerdictTold}
+use Rattle.sem_run.specs.Readings.{TellsAnswer, IsVerdictTold}
 use Rattle.sem_run.specs.Ends.{WouldEnd}
 
 -- nothing was read
@@ -165,7 +165,7 @@ if-accepted P T J (NotOver journal next) is so = tt
 if-accepted P T J (BadAudit line due) is so = tt
 
 -- what is not accepted is told by its line
-refused-line : (question : Question) (verdict : Verdict) (text : List ℕ) → is_accepted verdict ≡ false → Tells question verdict text →
+refused-line : (question : Question) (verdict : Verdict) (text : List ℕ) → is_accepted verdict ≡ false → TellsAnswer question verdict text →
     text ≡ verdict_line verdict
 refused-line question (Accepted T journal due) text refused told = absurd (false≢true (sym refused))
 refused-line question (BadLine fault) text refused told = told

@@ -11,12 +11,12 @@ use Rattle.sem_run.specs.declared.findings.Finding.{Finding}
 use Rattle.sem_run.specs.declared.findings.Finding.TheVariants.{Nothing, Accounted, Sighted, Line, Denial}
 
 -- the question that the finding is about
-abbrev pub question_of : Finding → Question
-question_of Nothing = Check
-question_of (Accounted x) = Contents
-question_of (Sighted s) = Holder s.key s.count
-question_of (Line key) = Path key
-question_of (Denial entry) = Denied entry
+abbrev pub question_about : Finding → Question
+question_about Nothing = Check
+question_about (Accounted x) = Contents
+question_about (Sighted s) = Holder s.key s.count
+question_about (Line key) = Path key
+question_about (Denial entry) = Denied entry
 
 -- nothing was found yet
 abbrev pub IsNew : Finding → Type 0

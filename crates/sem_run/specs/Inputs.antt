@@ -57,8 +57,8 @@ pub record Given : Type 0 where
   pub faults_after : ℕ
 
 -- this command and this input; the input tells what is left of it and how many faults it has had
-abbrev pub given : {S : Type 0} → (S → Option (List ℕ)) → (S → ℕ) → Option Command → S → S → Given
-given left faults asked old new = record {
+abbrev pub input_given : {S : Type 0} → (S → Option (List ℕ)) → (S → ℕ) → Option Command → S → S → Given
+input_given left faults asked old new = record {
   asked = asked;
   before = left old;
   after = left new;

@@ -86,25 +86,25 @@ abbrev pub AreAfter : Setup → List Entry → List KernelValue → Type 0
 AreAfter T J kernels = map (λ k. k.side) kernels ≡ (world_after T J).sides
 
 -- if the report is accepted, the text answers the question, otherwise it tells the verdict
-abbrev pub Tells : Question → Verdict → List ℕ → Type 0
-Tells question (Accepted T journal due) text = IsAnswer question T journal.entries text
-Tells question (BadLine fault) text = text ≡ verdict_line (BadLine fault)
-Tells question (BadEntry journal n entered replayed) text =
+abbrev pub TellsAnswer : Question → Verdict → List ℕ → Type 0
+TellsAnswer question (Accepted T journal due) text = IsAnswer question T journal.entries text
+TellsAnswer question (BadLine fault) text = text ≡ verdict_line (BadLine fault)
+TellsAnswer question (BadEntry journal n entered replayed) text =
     text ≡ verdict_line (BadEntry journal n entered replayed)
-Tells question (NotOver journal next) text = text ≡ verdict_line (NotOver journal next)
-Tells question (BadAudit line due) text = text ≡ verdict_line (BadAudit line due)
+TellsAnswer question (NotOver journal next) text = text ≡ verdict_line (NotOver journal next)
+TellsAnswer question (BadAudit line due) text = text ≡ verdict_line (BadAudit line due)
 
 -- a verdict is told, or memory was refused
 abbrev pub IsVerdictTold : Question → Verdict → List ℕ → Status → Type 0
 IsVerdictTold question verdict text Done =
-    (is_accepted verdict ≡ true) × Tells question verdict text
+    (is_accepted verdict ≡ true) × TellsAnswer question verdict text
 IsVerdictTold question verdict text Usage = ⊥
 IsVerdictTold question verdict text TraceRefused = ⊥
 IsVerdictTold question verdict text ReadFault = ⊥
 IsVerdictTold question verdict text WriteFault = ⊥
 IsVerdictTold question verdict text Memory = text ≡ []
 IsVerdictTold question verdict text ReportRefused =
-    (is_accepted verdict ≡ false) × Tells question verdict text
+    (is_accepted verdict ≡ false) × TellsAnswer question verdict text
 
 -- the response to a text with that verdict
 abbrev pub TellsVerdict : Question → Verdict → Response → Type 0

@@ -6,7 +6,7 @@ use Rattle.sem_trace.specs.declared.fault.Cause.TheVariants.{NotCanonical}
 use Rattle.sem_journal.specs.ReportText.{report_text}
 use Rattle.sem_report.specs.declared.verdict.Verdict.{Verdict}
 use Rattle.sem_report.specs.declared.verdict.Verdict.TheVariants.{Accepted, BadLine, BadEntry, NotOver, BadAudit}
-use Rattle.sem_report.specs.Audited.{differing_line}
+use Rattle.sem_report.specs.Audited.{first_wrong_line}
 use Rattle.sem_trace.specs.Forms.{whole_line}
 use Rattle.sem_trace.specs.LineErrors.{fault_of}
 use Rattle.sem_report.specs.ReportRefusal.{report_refusal}
@@ -59,7 +59,7 @@ IsVerdict bytes (NotOver journal next) =
 -- the schedule is complete, and one line, a line of the audit, differs from its report
 IsVerdict bytes (BadAudit line due) =
     (T : Setup) × (J : List Entry) × TellsComplete bytes T J due
-    × (differing_line bytes T J due ≡ Some line)
+    × (first_wrong_line bytes T J due ≡ Some line)
 
 abbrev pub is_accepted : Verdict → Bool
 is_accepted (Accepted setup journal due) = true

@@ -1,6 +1,6 @@
 ghost use Rattle.std.specs.Prelude.{◌≡◌, true, [], Some};
 ghost use Rattle.sem_cli.specs.declared.forms.Command.{Command as CommandData};
-ghost use Rattle.sem_run.specs.Inputs.{asked_by, given, is_alone};
+ghost use Rattle.sem_run.specs.Inputs.{asked_by, input_given, is_alone};
 ghost use Rattle.sem_run.specs.Ends.{left};
 ghost use Rattle.sem_run.specs.Serves.{Serves};
 
@@ -24,7 +24,7 @@ pub fn semper_alone<S: Source, K: Sink>(
 ) -> Status
     requires journal { journal.old.entries ≡ [] }
     requires alone { (c : CommandData) → asked_by words.now ≡ Some c → is_alone c ≡ true }
-    ensures { Serves (given S.left S.faults (asked_by words.now) input.old input.new)
+    ensures { Serves (input_given S.left S.faults (asked_by words.now) input.old input.new)
         (left K.written K.faults result journal.new.entries out.old out.new) }
 {
     respond(alloc, command(words), input).leave(out, journal)

@@ -2,11 +2,11 @@
 ghost use Rattle.std.specs.Prelude.{◌≡◌, [], Some, OnOk};
 ghost use Rattle.sem_machine.specs.Schedules.{IsSchedule};
 ghost use Rattle.sem_cli.specs.declared.forms.Command.TheVariants.{Ask};
-ghost use Rattle.sem_run.specs.Inputs.{given};
+ghost use Rattle.sem_run.specs.Inputs.{input_given};
 ghost use Rattle.sem_run.specs.Reports.{is_accepted as is_accepted_spec};
 ghost use Rattle.sem_run.specs.Ends.{IsAnswer};
-ghost use Rattle.sem_run.specs.Readings.{Responds, Tells, TellsVerdict};
-ghost use Rattle.sem_run.specs.Findings.{question_of, IsFound, IsAskable};
+ghost use Rattle.sem_run.specs.Readings.{Responds, TellsAnswer, TellsVerdict};
+ghost use Rattle.sem_run.specs.Findings.{question_about, IsFound, IsAskable};
 
 use crate::findings::Finding;
 use crate::judging::judge_watched;
@@ -27,7 +27,7 @@ const REPORT_BYTES: usize = 134_217_728;
 /// Checks the report in the input. The response answers the question if the report is accepted, and
 /// otherwise is the line of its verdict.
 pub fn answer<S: Source>(alloc: Global, question: Question, input: &mut S) -> Response
-    ensures { Responds (given S.left S.faults (Some (Ask question)) input.old input.new) result }
+    ensures { Responds (input_given S.left S.faults (Some (Ask question)) input.old input.new) result }
 {
     let bytes = match read_all(alloc, input, REPORT_BYTES) {
         Ok(bytes) => bytes,
@@ -43,7 +43,7 @@ pub fn answer<S: Source>(alloc: Global, question: Question, input: &mut S) -> Re
 // The response that answers the question or tells the verdict.
 fn tell_verdict(alloc: Global, finding: &Finding, verdict: &Verdict) -> Response
     requires { IsAskable finding.now verdict.now }
-    ensures { TellsVerdict (question_of finding.now) verdict.now result }
+    ensures { TellsVerdict (question_about finding.now) verdict.now result }
 {
     let mut text = Vec::new(alloc);
     match push_verdict(alloc, &mut text, finding, verdict) {
@@ -69,7 +69,7 @@ fn push_verdict(
 ) -> Result<(), OutOfMemory>
     requires askable { IsAskable finding.now verdict.now }
     requires empty { out.old.items ≡ [] }
-    ensures { OnOk result (Tells (question_of finding.now) verdict.now out.new.items) }
+    ensures { OnOk result (TellsAnswer (question_about finding.now) verdict.now out.new.items) }
 {
     match verdict {
         Verdict::Accepted { setup, journal, .. } => {
@@ -106,7 +106,7 @@ fn push_answer(
     requires found { IsFound setup.now journal.now.entries finding.now }
     requires empty { out.old.items ≡ [] }
     ensures { OnOk result
-        (IsAnswer (question_of finding.now) setup.now journal.now.entries out.new.items) }
+        (IsAnswer (question_about finding.now) setup.now journal.now.entries out.new.items) }
 {
     // Shows the proof what a setup keeps.
     let _ = &setup.vpes;

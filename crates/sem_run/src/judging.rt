@@ -3,7 +3,7 @@ ghost use Rattle.std.specs.Prelude.{◌≡◌, ◌≤◌, length, IfOk, IfErr, O
 ghost use Rattle.sem_machine.specs.Living.{IsComplete};
 ghost use Rattle.sem_check.specs.Verdicts.{TellsDifference, TellsNext};
 ghost use Rattle.sem_trace.specs.SetupOfText.{IsWhy};
-ghost use Rattle.sem_report.specs.Audited.{audited, AuditFits, differing_line};
+ghost use Rattle.sem_report.specs.Audited.{audited, AuditFits, first_wrong_line};
 ghost use Rattle.sem_report.specs.ReportRefusal.{report_refusal};
 ghost use Rattle.sem_audit.specs.HeldKeys.{IsAuditOf};
 ghost use Rattle.sem_run.specs.Reports.{IsVerdict};
@@ -165,7 +165,7 @@ fn other_line(
     requires few { length (audited setup.now journal.now.entries told.now) ≤ 134217729 }
     requires told { AuditFits setup.now journal.now.entries told.now }
     requires due { AuditFits setup.now journal.now.entries due.now }
-    ensures { IfOk result (λ line. line ≡ differing_line
+    ensures { IfOk result (λ line. line ≡ first_wrong_line
         (audited setup.now journal.now.entries told.now) setup.now journal.now.entries due.now) }
 {
     let mut text = Vec::new(alloc);

@@ -1,7 +1,7 @@
 // What the program does about words that ask for something.
 ghost use Rattle.std.specs.Prelude.{◌≡◌, true, Some, None};
 ghost use Rattle.sem_cli.specs.declared.forms.Command.{Command as CommandData};
-ghost use Rattle.sem_run.specs.Inputs.{Given as GivenRecord, IsUntouched, given, is_alone};
+ghost use Rattle.sem_run.specs.Inputs.{Given as GivenRecord, IsUntouched, input_given, is_alone};
 ghost use Rattle.sem_run.specs.Readings.{IsAsked, Responds};
 
 use crate::answers::answer;
@@ -28,7 +28,7 @@ pub fn respond_to<R: Threads + Wait + Sync, S: Source, G: Gate + Sync>(
     gate: &G,
 ) -> Response
     requires { IsAsked asked }
-    ensures { Responds (given S.left S.faults asked input.old input.new) result }
+    ensures { Responds (input_given S.left S.faults asked input.old input.new) result }
 {
     match asked {
         Some(Command::Threads { seed }) => thread_trace(rt, alloc, seed, input, gate),
@@ -41,7 +41,7 @@ pub fn respond_to<R: Threads + Wait + Sync, S: Source, G: Gate + Sync>(
 pub fn respond<S: Source>(alloc: Global, asked: Option<Command>, input: &mut S) -> Response
     requires asked { IsAsked asked }
     requires alone { (c : CommandData) → asked ≡ Some c → is_alone c ≡ true }
-    ensures { Responds (given S.left S.faults asked input.old input.new) result }
+    ensures { Responds (input_given S.left S.faults asked input.old input.new) result }
 {
     match asked {
         Some(Command::Run { seed }) => run_trace(alloc, seed, input),

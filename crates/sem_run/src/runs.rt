@@ -8,7 +8,7 @@ ghost use Rattle.sem_cli.specs.declared.forms.Command.{Command as CommandData};
 ghost use Rattle.sem_cli.specs.declared.forms.Command.TheVariants.{Run as RunCommand};
 ghost use Rattle.sem_cli.specs.Messages.{refused_line};
 ghost use Rattle.sem_kernel.specs.Standing.{StandsAt};
-ghost use Rattle.sem_run.specs.Inputs.{given, AsksRun, ReadsTrace};
+ghost use Rattle.sem_run.specs.Inputs.{input_given, AsksRun, ReadsTrace};
 ghost use Rattle.sem_audit.specs.HeldKeys.{IsAuditOf};
 ghost use Rattle.sem_run.specs.Readings.{AreAfter, EndsRun, IsOkWith, Responds, TellsRefusal};
 ghost use Rattle.sem_run.specs.Texts.{text_of};
@@ -44,7 +44,7 @@ pub struct Run {
 
 /// Runs the trace in the input, on one thread.
 pub fn run_trace<S: Source>(alloc: Global, seed: u64, input: &mut S) -> Response
-    ensures { Responds (given S.left S.faults (Some (RunCommand seed)) input.old input.new) result }
+    ensures { Responds (input_given S.left S.faults (Some (RunCommand seed)) input.old input.new) result }
 {
     match read_setup(alloc, input) {
         Ok(setup) => {
@@ -58,11 +58,11 @@ pub fn run_trace<S: Source>(alloc: Global, seed: u64, input: &mut S) -> Response
 /// The setup in the input, or else the response of the command that needs it.
 pub fn read_setup<S: Source>(alloc: Global, input: &mut S) -> Result<Setup, Response>
     ensures reads { IfOk result (λ setup. (asked : Option CommandData)
-        → ReadsTrace (given S.left S.faults asked input.old input.new) setup) }
+        → ReadsTrace (input_given S.left S.faults asked input.old input.new) setup) }
     ensures quiet { OnOk result (S.faults input.new ≡ S.faults input.old) }
     ensures refused { IfErr result (λ response. (seed : ℕ) (asked : Option CommandData)
-        → AsksRun (given S.left S.faults asked input.old input.new) seed
-        → Responds (given S.left S.faults asked input.old input.new) response) }
+        → AsksRun (input_given S.left S.faults asked input.old input.new) seed
+        → Responds (input_given S.left S.faults asked input.old input.new) response) }
 {
     let bytes = match read_all(alloc, input, MOST_BYTES) {
         Ok(bytes) => bytes,

@@ -3,7 +3,7 @@ ghost use Rattle.std.specs.Prelude.{◌≡◌, ℕ, Option, Some, IfOk, IfErr, O
 ghost use Rattle.sem_cli.specs.Messages.{files_refused_line};
 ghost use Rattle.sem_cli.specs.declared.forms.Command.{Command as CommandData};
 ghost use Rattle.sem_cli.specs.declared.forms.Command.TheVariants.{Files as FilesCommand};
-ghost use Rattle.sem_run.specs.Inputs.{given, Asks};
+ghost use Rattle.sem_run.specs.Inputs.{input_given, Asks};
 ghost use Rattle.sem_run.specs.Readings.{ReadsService, Responds, TellsRefusal};
 
 use crate::response::Response;
@@ -19,7 +19,7 @@ use std::alloc::Global;
 
 /// Runs the setup that the file commands in the input compile to, on one thread.
 pub fn run_files<S: Source>(alloc: Global, seed: u64, input: &mut S) -> Response
-    ensures { Responds (given S.left S.faults (Some (FilesCommand seed)) input.old input.new)
+    ensures { Responds (input_given S.left S.faults (Some (FilesCommand seed)) input.old input.new)
         result }
 {
     match read_service(alloc, input) {
@@ -34,11 +34,11 @@ pub fn run_files<S: Source>(alloc: Global, seed: u64, input: &mut S) -> Response
 // The setup that the file commands in the input compile to, or else the response of the command.
 fn read_service<S: Source>(alloc: Global, input: &mut S) -> Result<Setup, Response>
     ensures reads { IfOk result (λ setup. (asked : Option CommandData)
-        → ReadsService (given S.left S.faults asked input.old input.new) setup) }
+        → ReadsService (input_given S.left S.faults asked input.old input.new) setup) }
     ensures quiet { OnOk result (S.faults input.new ≡ S.faults input.old) }
     ensures refused { IfErr result (λ response. (seed : ℕ) (asked : Option CommandData)
-        → Asks (given S.left S.faults asked input.old input.new) (FilesCommand seed)
-        → Responds (given S.left S.faults asked input.old input.new) response) }
+        → Asks (input_given S.left S.faults asked input.old input.new) (FilesCommand seed)
+        → Responds (input_given S.left S.faults asked input.old input.new) response) }
 {
     let bytes = match read_all(alloc, input, MOST_BYTES) {
         Ok(bytes) => bytes,

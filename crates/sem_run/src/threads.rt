@@ -2,7 +2,7 @@
 ghost use Rattle.std.specs.Prelude.{◌≡◌, Some, IfOk};
 ghost use Rattle.sem_cli.specs.declared.forms.Command.TheVariants.{Threads as InThreads};
 ghost use Rattle.sem_kernel.specs.Standing.{StandsAt};
-ghost use Rattle.sem_run.specs.Inputs.{given};
+ghost use Rattle.sem_run.specs.Inputs.{input_given};
 ghost use Rattle.sem_run.specs.Readings.{Responds};
 
 use crate::response::Response;
@@ -25,7 +25,7 @@ pub fn thread_trace<R: Threads + Wait + Sync, S: Source, G: Gate + Sync>(
     input: &mut S,
     gate: &G,
 ) -> Response
-    ensures { Responds (given S.left S.faults (Some (InThreads seed)) input.old input.new) result }
+    ensures { Responds (input_given S.left S.faults (Some (InThreads seed)) input.old input.new) result }
 {
     match read_setup(alloc, input) {
         Ok(setup) => {

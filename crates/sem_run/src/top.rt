@@ -1,5 +1,5 @@
 ghost use Rattle.std.specs.Prelude.{◌≡◌, []};
-ghost use Rattle.sem_run.specs.Inputs.{asked_by, given};
+ghost use Rattle.sem_run.specs.Inputs.{asked_by, input_given};
 ghost use Rattle.sem_run.specs.Ends.{left};
 ghost use Rattle.sem_run.specs.Serves.{Serves};
 
@@ -27,7 +27,7 @@ pub fn semper<R: Threads + Wait + Sync, S: Source, K: Sink, G: Gate + Sync>(
     journal: &mut Journal,
 ) -> Status
     requires { journal.old.entries ≡ [] }
-    ensures { Serves (given S.left S.faults (asked_by words.now) input.old input.new)
+    ensures { Serves (input_given S.left S.faults (asked_by words.now) input.old input.new)
         (left K.written K.faults result journal.new.entries out.old out.new) }
 {
     respond_to(rt, alloc, command(words), input, gate).leave(out, journal)

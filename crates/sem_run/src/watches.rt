@@ -1,6 +1,6 @@
 // What is found in a report while it is checked.
 ghost use Rattle.std.specs.Prelude.{◌≡◌, OnOk};
-ghost use Rattle.sem_run.specs.Findings.{question_of, IsNew, IsFound, IsFoundBefore};
+ghost use Rattle.sem_run.specs.Findings.{question_about, IsNew, IsFound, IsFoundBefore};
 
 use crate::findings::Finding;
 use sem_check::Watch;
@@ -15,7 +15,7 @@ use std::alloc::Global;
 impl Finding {
     /// Nothing is found yet for the question.
     pub fn new(alloc: Global, question: Question) -> Self
-        ensures question { question_of result ≡ question }
+        ensures question { question_about result ≡ question }
         ensures new { IsNew result }
     {
         match question {

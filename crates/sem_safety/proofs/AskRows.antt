@@ -33,7 +33,7 @@ use Rattle.sem_msg.specs.declared.code.Code.TheVariants.{Ok as OkCode, NoCap, No
 use Rattle.sem_msg.specs.Codes.{code_number}
 use Rattle.sem_machine.specs.Sides.{Side, row, cap, cap_in, own, slot, endpoint, parked, pending, is_alive, drawn, promised, parked_as, asked, linked}
 use Rattle.sem_machine.specs.Sides.{installed, cap_added, pending_added, pending_removed, send}
-use Rattle.sem_machine.specs.Steps.{Step, plain, answer}
+use Rattle.sem_machine.specs.Steps.{Step, unshown, answer}
 use Rattle.sem_machine.specs.Asks.{target_vpe, asker, is_unawaited, ask_refused, call_refused}
 use Rattle.sem_msg.specs.Uses.{memory_tests, send_tests, credit_tests}
 use Rattle.sem_machine.specs.Calls.{next_key, next_place, child_made, narrowed, with_held, own_tests, derive_tests, gate_tests, destination_tests, ask_made}
@@ -186,7 +186,7 @@ module _ (v0 : ℕ) where
       Few (of_side v0 s + here v0 place.vpe) (obtain_consent T i v place target s)
   obtain_consent-costs T i v place target s = unless-keeps (Few (of_side v0 s + here v0 place.vpe)) (source_tests target (source T s v target)) _ _
       (λ code. ask_refused-costs v0 T i code (ObtainAsk place target) s) (option-keeps (Few (of_side v0 s + here v0 place.vpe)) (child_given T i place target s)
-      (source T s v target) (plain s) (λ p held. child_given-costs T i place target s p) (omega arith))
+      (source T s v target) (unshown s) (λ p held. child_given-costs T i place target s p) (omega arith))
 
   delegate_here-costs : (T : Setup) (v : ℕ) (parent : KeyName) (object : Object) (sel : ℕ) (s : Side) →
       Few (of_side v0 s + here v0 parent.vpe) (delegate_here T v parent object sel s)

@@ -21,7 +21,7 @@ use Rattle.sem_msg.specs.Rows.{VpeRow, no_vpe}
 use Rattle.sem_msg.specs.Setup.{Setup, root_key}
 use Rattle.sem_msg.specs.Lookups.{pe_owner, kernel_of, own_vpes}
 use Rattle.sem_machine.specs.Sides.{Side, no_side, row, parked, outbox, is_alive, call_counted, ask_taken, unparked, sent, cap_added, with_inbox}
-use Rattle.sem_machine.specs.Steps.{Step, plain}
+use Rattle.sem_machine.specs.Steps.{Step, unshown}
 use Rattle.sem_machine.specs.Calls.{call_row}
 use Rattle.sem_machine.specs.Upcalls.{ask_decided, upcall_row}
 use Rattle.sem_machine.specs.Handles.{handled}
@@ -77,13 +77,13 @@ module _ (v0 : ℕ) where
       let same = side-counted v0 s v in
       let r : VpeRow = record (row s v) { next_call = (row s v).next_call + 1 } in
       let sound_t : IsSoundSide t = sound.keeps_counted s sound' v in
-      option-keeps (λ (x : Step). of_side v0 x.side ≤ of_side v0 s) (call_row T i t v) (next_call T s v) (plain s) (λ c there. let few =
+      option-keeps (λ (x : Step). of_side v0 x.side ≤ of_side v0 s) (call_row T i t v) (next_call T s v) (unshown s) (λ c there. let few =
       call_row-few v0 t v (may-call s v lives idle) T i c sound_t rise in omega (arith, same, few)) (omega arith)
 
   upcalled-few : (T : Setup) (i : ℕ) (s : Side) (v : ℕ) (input : Option Message) → of_side v0 (local_step T i s (Upcall v) input).side ≤ of_side v0 s
   unfolding local_step upcall_row
   upcalled-few T i s v input =
-      option-keeps (λ (x : Step). of_side v0 x.side ≤ of_side v0 s) (λ (a : Ask). ask_decided T i v a (ask_taken v s)) (slice_get (row s v).asks 0) (plain s)
+      option-keeps (λ (x : Step). of_side v0 x.side ≤ of_side v0 s) (λ (a : Ask). ask_decided T i v a (ask_taken v s)) (slice_get (row s v).asks 0) (unshown s)
       (λ a there.
       let taken = side-taken v0 s v in
       let first : of_option (of_ask v0) (slice_get (row s v).asks 0) ≡ of_ask v0 a = ap (of_option (of_ask v0)) there in

@@ -7,7 +7,7 @@ use Rattle.sem_msg.specs.declared.message.Message.{Message}
 use Rattle.sem_machine.specs.Sides.{outbox, send, sent, with_inbox}
 use Rattle.sem_machine.specs.Machine.{World, side, link, with_side, with_link}
 use Rattle.sem_machine.specs.Living.{way}
-use Rattle.sem_safety.specs.Counts.{sum_to, one_if, in_flight}
+use Rattle.sem_safety.specs.Counts.{sum_to, count_if, in_flight}
 use Rattle.sem_safety.proofs.Worlds.{way-flushed, way-fetched, way-taken, way-taken_other, way-posted, way-posted_other}
 
 -- sums of functions that agree below n
@@ -50,11 +50,11 @@ sums-but n f g i j in_i in_j same =
 -- Messages.
 
 module _ (test : Message → Bool) where
-  count-front : (m : Message) (ms : List Message) → count_by test (m ∷ ms) ≡ one_if test m + count_by test ms
-  count-front m ms = sum_by-cons (one_if test) m ms
+  count-front : (m : Message) (ms : List Message) → count_by test (m ∷ ms) ≡ count_if test m + count_by test ms
+  count-front m ms = sum_by-cons (count_if test) m ms
 
-  count-end : (ms : List Message) (m : Message) → count_by test (ms ++ m ∷ []) ≡ count_by test ms + one_if test m
-  count-end ms m = sum_by-append (one_if test) ms (m ∷ []) ∙ ap (λ n. count_by test ms + n) (omega arith)
+  count-end : (ms : List Message) (m : Message) → count_by test (ms ++ m ∷ []) ≡ count_by test ms + count_if test m
+  count-end ms m = sum_by-append (count_if test) ms (m ∷ []) ∙ ap (λ n. count_by test ms + n) (omega arith)
 
   -- a flush and a fetch leave the number
   pub in_flight-flushed : (n i j : ℕ) (m : Message) (rest : List Message) (W : World) → outbox (side W i) j ≡ m ∷ rest →
@@ -68,21 +68,21 @@ module _ (test : Message → Bool) where
 
   -- what is handled is one less
   pub in_flight-handled : (n i j : ℕ) (m : Message) (W : World) → i < n → j < n → (side W j).inbox ≡ Some (i, m) →
-      in_flight n test W ≡ in_flight n test (with_side j (with_inbox None (side W j)) W) + one_if test m
+      in_flight n test W ≡ in_flight n test (with_side j (with_inbox None (side W j)) W) + count_if test m
   in_flight-handled n i j m W in_i in_j held =
       let V : World = with_side j (with_inbox None (side W j)) W in
       let apart = sums-but n (λ a b. count_by test (way W a b)) (λ a b. count_by test (way V a b)) i j in_i in_j
       (λ a b other. ap (count_by test) (way-taken_other i j m W held a b other)) in
-      let here : count_by test (way W i j) ≡ one_if test m + count_by test (way V i j) = ap (count_by test) (way-taken i j m W held)
+      let here : count_by test (way W i j) ≡ count_if test m + count_by test (way V i j) = ap (count_by test) (way-taken i j m W held)
       ∙ count-front m (way V i j) in
       omega arith
 
   -- what is sent is one more
   pub in_flight-sent : (n i j : ℕ) (m : Message) (W : World) → i < n → j < n →
-      in_flight n test (with_side i (send j m (side W i)) W) ≡ in_flight n test W + one_if test m
+      in_flight n test (with_side i (send j m (side W i)) W) ≡ in_flight n test W + count_if test m
   in_flight-sent n i j m W in_i in_j =
       let V : World = with_side i (send j m (side W i)) W in
       let apart = sums-but n (λ a b. count_by test (way W a b)) (λ a b. count_by test (way V a b)) i j in_i in_j
       (λ a b other. ap (count_by test) (way-posted_other i j m W a b other)) in
-      let here : count_by test (way V i j) ≡ count_by test (way W i j) + one_if test m = ap (count_by test) (way-posted i j m W) ∙ count-end (way W i j) m in
+      let here : count_by test (way V i j) ≡ count_by test (way W i j) + count_if test m = ap (count_by test) (way-posted i j m W) ∙ count-end (way W i j) m in
       omega arith

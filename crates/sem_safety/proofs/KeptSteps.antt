@@ -29,7 +29,7 @@ use Rattle.sem_msg.specs.Codes.{code_number}
 use Rattle.sem_msg.specs.declared.code.Code.TheVariants.{Ok as OkCode, Dead, Refused}
 use Rattle.sem_machine.specs.Sides.{Side, row, cap, parked, pending, is_alive, drawn, promised, parked_as, unparked, asked, ask_taken, call_counted, linked}
 use Rattle.sem_machine.specs.Sides.{installed, pending_added, pending_removed, send, with_inbox}
-use Rattle.sem_machine.specs.Steps.{plain}
+use Rattle.sem_machine.specs.Steps.{unshown}
 use Rattle.sem_machine.specs.Asks.{target_vpe, asker, is_unawaited, ask_refused, call_refused}
 use Rattle.sem_machine.specs.Calls.{destination_tests, narrowed, next_key, call_row}
 use Rattle.sem_machine.specs.Upcalls.{source, source_tests, given, given_kind, given_here, child_given, obtain_consent, parent_tests, delegate_here}
@@ -160,7 +160,7 @@ module _ (F : Facts) (D : ℕ → Type 0) (P : Side → Type 0) (L : IsKept F P)
       Keeps F D P L s (obtain_consent T i v place target s)
   obtain_consent-keeps T i v place target s is gives = unless-keeps (Keeps F D P L s) (source_tests target (source T s v target)) _ _
       (λ code _. ask_refused-in F D P L T i code (ObtainAsk place target) s is)
-      (option-keeps (Keeps F D P L s) (child_given T i place target s) (source T s v target) (plain s)
+      (option-keeps (Keeps F D P L s) (child_given T i place target s) (source T s v target) (unshown s)
       (λ p held. child_given-keeps T i place target s p is (gives p held)) (λ _. is))
 
   delegate_here-keeps : (T : Setup) (v : ℕ) (parent : KeyName) (object : Object) (sel : ℕ) (s : Side) → P s → Gives F object →
@@ -212,7 +212,7 @@ module _ (F : Facts) (D : ℕ → Type 0) (P : Side → Type 0) (L : IsKept F P)
       Keeps F D P L s (upcall_row T i s v)
   unfolding upcall_row
   upcall_row-keeps T i s v may is gives asks = option-keeps (Keeps F D P L s) (λ (a : Ask). ask_decided T i v a (ask_taken v s)) (slice_get (row s v).asks 0)
-      (plain s) (λ a there. keeps-later F D P L s (ask_taken v s) (ask_decided T i v a (ask_taken v s)) ((onward s).kept.keeps_taken s (onward-same s) v)
+      (unshown s) (λ a there. keeps-later F D P L s (ask_taken v s) (ask_decided T i v a (ask_taken v s)) ((onward s).kept.keeps_taken s (onward-same s) v)
       (ask_decided-keeps T i v a (ask_taken v s) may (L.keeps_taken s is v) (gives a there) (asks a there))) (λ _. is)
 
   -- Messages.
@@ -307,7 +307,7 @@ module _ (F : Facts) (D : ℕ → Type 0) (P : Side → Type 0) (L : IsKept F P)
       Keeps F D P L s (local_step T i s a input)
   unfolding local_step
   local_step-kept T i s (Calls v) input may is caps takes gives dies here = option-keeps (Keeps F D P L s) (call_row T i (call_counted v s) v) (next_call T s v)
-      (plain s) (λ c there. keeps-later F D P L s (call_counted v s) (call_row T i (call_counted v s) v c) ((onward s).kept.keeps_counted s (onward-same s) v)
+      (unshown s) (λ c there. keeps-later F D P L s (call_counted v s) (call_row T i (call_counted v s) v c) ((onward s).kept.keeps_counted s (onward-same s) v)
       (call_row-keeps F D P L T i (call_counted v s) v c may (L.keeps_counted s is v) (λ exit. dies (there ∙ ap Some exit)) caps (gives c there))) (λ _. is)
   local_step-kept T i s (Fetch from) input may is caps takes gives dies here = λ _. fetched-in from input s is here
   local_step-kept T i s Handle input may is caps takes gives dies here = λ _. taken_out-in T i s s.inbox is takes

@@ -33,7 +33,7 @@ use Rattle.sem_msg.specs.Codes.{code_number}
 use Rattle.sem_msg.specs.declared.code.Code.TheVariants.{Ok as OkCode, NoCap, NoService, BadKind, Refused, Revoking, Gone}
 use Rattle.sem_machine.specs.Sides.{Side, row, cap, own, endpoint, parked, is_alive, call_counted, drawn, promised, parked_as, unparked, asked, ask_taken}
 use Rattle.sem_machine.specs.Sides.{linked, installed, cap_added, pending, send, with_inbox, pending_added, pending_removed, with_endpoint}
-use Rattle.sem_machine.specs.Steps.{Step, plain, replied, answer, cutting, asking}
+use Rattle.sem_machine.specs.Steps.{Step, unshown, replied, answer, cutting, asking}
 use Rattle.sem_machine.specs.Asks.{target_vpe, asker, is_unawaited, ask_refused}
 use Rattle.sem_msg.specs.Uses.{memory_tests, send_tests, credit_tests}
 use Rattle.sem_machine.specs.Endpoints.{message_rung, message_credited}
@@ -139,7 +139,7 @@ module _ (k0 : KeyName) (counts : Option KeyName → Bool) where
         (option-keeps (Within m) (λ (k : KeyName). ask_made T i v dst (OfferTarget k index) s) _ (answer BadKind s)
         (λ k there. ask_made-within T i v dst (OfferTarget k index) s is) (light m (answer BadKind s) is))
     call_row-within T i s v (Revoke src) is =
-        with_held-within (own s v src) _ s is (λ c held. light m (cutting c.key (plain (revoke_begun T i v c.key c.mark s)))
+        with_held-within (own s v src) _ s is (λ c held. light m (cutting c.key (unshown (revoke_begun T i v c.key c.mark s)))
         (begun-in (OtherKeys k0) (Few m) L T i v c.key c.mark s is tt))
     call_row-within T i s v (Bind ep src) is = unless-keeps (Within m) (bind_tests s v src) _ _ (λ code. light m (answer code s) is)
         (with_held-within (own s v src) _ s is
@@ -154,7 +154,7 @@ module _ (k0 : KeyName) (counts : Option KeyName → Bool) where
         (light m (answer OkCode (message_credited v ep s)) (L.keeps_rung s is v ep (λ ring. drop 1 ring)))
     call_row-within T i s v (Clear src) is = unless-keeps (Within m) (own_tests (own s v src)) _ _ (λ code. light m (answer code s) is)
         (with_held-within (own s v src) _ s is
-        (λ c held. light m (cutting c.key (plain (clear_begun T i v c.key s))) (cleared-in (OtherKeys k0) (Few m) L T i v c.key s is tt)))
+        (λ c held. light m (cutting c.key (unshown (clear_begun T i v c.key s))) (cleared-in (OtherKeys k0) (Few m) L T i v c.key s is tt)))
     call_row-within T i s v Exit is = light m (answer OkCode (ended T i v s)) (ended-in (OtherKeys k0) AnyVpe (Few m) L T i v s is (λ k same. tt) tt)
 
     -- Upcalls.
@@ -185,9 +185,9 @@ module _ (k0 : KeyName) (counts : Option KeyName → Bool) where
     delegate_consent-within T i v parent object sel s is =
         cond_both (kernel_of T parent.vpe == i) _ _ (Within m)
         (λ _. unless-keeps (Within m) (parent_tests (cap s parent) ++ destination_tests s v sel) _ _
-        (λ code. light m (plain (ask_refused T i code (DelegateAsk parent object sel) s)) (refused-few T i code (DelegateAsk parent object sel) s is))
+        (λ code. light m (unshown (ask_refused T i code (DelegateAsk parent object sel) s)) (refused-few T i code (DelegateAsk parent object sel) s is))
         (delegate_here-within T v parent object sel s is))
-        (λ _. unless-keeps (Within m) (destination_tests s v sel) _ _ (λ code. light m (plain (ask_refused T i code (DelegateAsk parent object sel) s))
+        (λ _. unless-keeps (Within m) (destination_tests s v sel) _ _ (λ code. light m (unshown (ask_refused T i code (DelegateAsk parent object sel) s))
         (refused-few T i code (DelegateAsk parent object sel) s is)) (delegate_prepared-within T v parent object sel s is))
 
     given_here-more : (k p : KeyName) (object : Object) (state : Option Parked) (s : Side) → Few m s →
@@ -217,9 +217,9 @@ module _ (k0 : KeyName) (counts : Option KeyName → Bool) where
 
     obtain_consent-within : (T : Setup) (i v : ℕ) (place : PlaceName) (target : Target) (s : Side) → Few m s → Within m (obtain_consent T i v place target s)
     obtain_consent-within T i v place target s is =
-        unless-keeps (Within m) (source_tests target (source T s v target)) _ _ (λ code. light m (plain (ask_refused T i code (ObtainAsk place target) s))
-        (refused-few T i code (ObtainAsk place target) s is)) (option-keeps (Within m) (child_given T i place target s) (source T s v target) (plain s)
-        (λ p held. child_given-within T i place target s p is) (light m (plain s) is))
+        unless-keeps (Within m) (source_tests target (source T s v target)) _ _ (λ code. light m (unshown (ask_refused T i code (ObtainAsk place target) s))
+        (refused-few T i code (ObtainAsk place target) s is)) (option-keeps (Within m) (child_given T i place target s) (source T s v target) (unshown s)
+        (λ p held. child_given-within T i place target s p is) (light m (unshown s) is))
 
     consented-within : (T : Setup) (i v : ℕ) (a : Ask) (s : Side) → Few m s → Within m (consented T i v a s)
     consented-within T i v (ObtainAsk place target) s is = obtain_consent-within T i v place target s is
@@ -227,8 +227,8 @@ module _ (k0 : KeyName) (counts : Option KeyName → Bool) where
 
     ask_decided-within : (T : Setup) (i v : ℕ) (a : Ask) (s : Side) → Few m s → Within m (ask_decided T i v a s)
     ask_decided-within T i v a s is =
-        cond_both (is_unawaited T i s a) _ _ (Within m) (λ _. light m (asking (asker a) Dropped (plain s)) is)
-        (λ _. cond_both (denies T v (asker a)) _ _ (Within m) (λ _. light m (asking (asker a) No (plain (ask_refused T i Refused a s)))
+        cond_both (is_unawaited T i s a) _ _ (Within m) (λ _. light m (asking (asker a) Dropped (unshown s)) is)
+        (λ _. cond_both (denies T v (asker a)) _ _ (Within m) (λ _. light m (asking (asker a) No (unshown (ask_refused T i Refused a s)))
         (refused-few T i Refused a s is)) (λ _. consented-within T i v a s is))
 
   -- Messages.
@@ -310,10 +310,10 @@ module _ (k0 : KeyName) (counts : Option KeyName → Bool) where
         is in omega (arith, few))
     resumed-within T (Some (Ready number)) s is = light m (replied number s) (let few : at_side k0 counts s + 0 ≤ m = is in omega (arith, few))
     resumed-within T (Some ObtainCancelled) s is = light m (answer Gone s) (let few : at_side k0 counts s + 0 ≤ m = is in omega (arith, few))
-    resumed-within T None s is = light m (plain s) (let few : at_side k0 counts s + 0 ≤ m = is in omega (arith, few))
-    resumed-within T (Some (ObtainWait number sel)) s is = light m (plain s) (let few : at_side k0 counts s + 0 ≤ m = is in omega (arith, few))
-    resumed-within T (Some (DelegateWait parent)) s is = light m (plain s) (let few : at_side k0 counts s + 0 ≤ m = is in omega (arith, few))
-    resumed-within T (Some (RevokeWait j)) s is = light m (plain s) (let few : at_side k0 counts s + 0 ≤ m = is in omega (arith, few))
+    resumed-within T None s is = light m (unshown s) (let few : at_side k0 counts s + 0 ≤ m = is in omega (arith, few))
+    resumed-within T (Some (ObtainWait number sel)) s is = light m (unshown s) (let few : at_side k0 counts s + 0 ≤ m = is in omega (arith, few))
+    resumed-within T (Some (DelegateWait parent)) s is = light m (unshown s) (let few : at_side k0 counts s + 0 ≤ m = is in omega (arith, few))
+    resumed-within T (Some (RevokeWait j)) s is = light m (unshown s) (let few : at_side k0 counts s + 0 ≤ m = is in omega (arith, few))
 
   -- Steps that move no message between kernels.
   pub step-within : (T : Setup) (i : ℕ) (s : Side) (a : Act) (input : Option Message) → Stays a → Within (at_side k0 counts s) (local_step T i s a input)
@@ -322,19 +322,19 @@ module _ (k0 : KeyName) (counts : Option KeyName → Bool) where
       let m : ℕ = at_side k0 counts s in
       let counted : Side = call_counted v s in
       let few : Few m counted = (lives k0 counts m).keeps_counted s (omega arith) v in
-      option-keeps (Within m) (call_row T i counted v) (next_call T s v) (plain s) (λ c there. call_row-within m T i counted v c few)
-      (light m (plain s) (omega arith))
+      option-keeps (Within m) (call_row T i counted v) (next_call T s v) (unshown s) (λ c there. call_row-within m T i counted v c few)
+      (light m (unshown s) (omega arith))
   step-within T i s (Upcall v) input stays =
       let m : ℕ = at_side k0 counts s in
       let left : Side = ask_taken v s in
       let few : Few m left = (lives k0 counts m).keeps_taken s (omega arith) v in
-      option-keeps (Within m) (λ (a : Ask). ask_decided T i v a left) (slice_get (row s v).asks 0) (plain s) (λ a there. ask_decided-within m T i v a left few)
-      (light m (plain s) (omega arith))
+      option-keeps (Within m) (λ (a : Ask). ask_decided T i v a left) (slice_get (row s v).asks 0) (unshown s) (λ a there. ask_decided-within m T i v a left few)
+      (light m (unshown s) (omega arith))
   step-within T i s (Resume v) input stays =
       let taken = lives-unparked k0 counts s v in
       resumed-within (at_side k0 counts s) T (parked s v) (unparked v s) (omega (arith, taken))
   step-within T i s (Kill v) input stays = let m : ℕ = at_side k0 counts s in
-      light m (plain (ended T i v s)) (ended-in (OtherKeys k0) AnyVpe (Few m) (lives k0 counts m) T i v s (omega arith) (λ k same. tt) tt)
+      light m (unshown (ended T i v s)) (ended-in (OtherKeys k0) AnyVpe (Few m) (lives k0 counts m) T i v s (omega arith) (λ k same. tt) tt)
   step-within T i s Handle input stays = light (at_side k0 counts s) (local_step T i s Handle input) (from s.inbox refl)
     where
       from : (o : Option (ℕ × Message)) → s.inbox ≡ o →

@@ -17,7 +17,7 @@ use Rattle.sem_msg.specs.declared.entry.Reply.{Reply}
 use Rattle.sem_msg.specs.Journal.{replies}
 use Rattle.sem_key.specs.Region.{has_key}
 use Rattle.sem_machine.specs.Journals.{grants, ends, has_ended, cut_by, cut_from, first_reply, is_success, succeeds as succeeds_in, answered, answered_from}
-use Rattle.sem_safety.specs.History.{History, no_history, ended_by, cut_at, call_by, replies_to, succeeds, note, history}
+use Rattle.sem_safety.specs.History.{History, no_history, ended_by, cut_at, call_by, replies_to, replies_ok, note, history}
 
 -- what is collected of entries one after the other
 module _ {X : Type 0} (field : History → List X) (part : Entry → Option X) (more : (h : History) (e : Entry) →
@@ -142,7 +142,7 @@ call_by-is (Flush j) ks J = refl
 call_by-is (Kill w) ks J = refl
 
 -- the first reply, by whether the first entry has it
-first_reply-here : (e : Entry) (J : List Entry) (v : ℕ) → replies_to e v ≡ true → is_success (first_reply (e ∷ J) v) ≡ succeeds e
+first_reply-here : (e : Entry) (J : List Entry) (v : ℕ) → replies_to e v ≡ true → is_success (first_reply (e ∷ J) v) ≡ replies_ok e
 first_reply-here e J v here = from e.reply here
   where
     from : (o : Option Reply) → option_map_or (λ r. r.vpe == v) o false ≡ true →
@@ -162,7 +162,7 @@ first_reply-later e J v later = from e.reply later
 
 -- what an entry answers, and what waits on
 abbrev answered_now : Entry → List (ℕ × List KeyName) → List KeyName
-answered_now e ws = flat_map (λ (w : ℕ × List KeyName). w.1) (filter (λ (w : ℕ × List KeyName). replies_to e w.0 && succeeds e) ws)
+answered_now e ws = flat_map (λ (w : ℕ × List KeyName). w.1) (filter (λ (w : ℕ × List KeyName). replies_to e w.0 && replies_ok e) ws)
 
 abbrev waiting_on : Entry → List (ℕ × List KeyName) → List (ℕ × List KeyName)
 waiting_on e ws = filter (λ (w : ℕ × List KeyName). not (replies_to e w.0)) ws
@@ -182,15 +182,15 @@ answered_in-more e J (w ∷ ws) k =
     later = has_key (answered_in J (waiting_on e ws)) k
 
     -- the first revoke is answered, or not, or waits on
-    now-yes : (replies_to e w.0 && succeeds e) ≡ true → answered_now e (w ∷ ws) ≡ w.1 ++ answered_now e ws
+    now-yes : (replies_to e w.0 && replies_ok e) ≡ true → answered_now e (w ∷ ws) ≡ w.1 ++ answered_now e ws
     now-yes test = ap (flat_map (λ (x : ℕ × List KeyName). x.1))
-        (cond-true (replies_to e w.0 && succeeds e) (w ∷ filter (λ (x : ℕ × List KeyName). replies_to e x.0 && succeeds e) ws)
-        (filter (λ (x : ℕ × List KeyName). replies_to e x.0 && succeeds e) ws) test)
+        (cond-true (replies_to e w.0 && replies_ok e) (w ∷ filter (λ (x : ℕ × List KeyName). replies_to e x.0 && replies_ok e) ws)
+        (filter (λ (x : ℕ × List KeyName). replies_to e x.0 && replies_ok e) ws) test)
 
-    now-no : (replies_to e w.0 && succeeds e) ≡ false → answered_now e (w ∷ ws) ≡ answered_now e ws
+    now-no : (replies_to e w.0 && replies_ok e) ≡ false → answered_now e (w ∷ ws) ≡ answered_now e ws
     now-no test = ap (flat_map (λ (x : ℕ × List KeyName). x.1))
-        (cond-false (replies_to e w.0 && succeeds e) (w ∷ filter (λ (x : ℕ × List KeyName). replies_to e x.0 && succeeds e) ws)
-        (filter (λ (x : ℕ × List KeyName). replies_to e x.0 && succeeds e) ws) test)
+        (cond-false (replies_to e w.0 && replies_ok e) (w ∷ filter (λ (x : ℕ × List KeyName). replies_to e x.0 && replies_ok e) ws)
+        (filter (λ (x : ℕ × List KeyName). replies_to e x.0 && replies_ok e) ws) test)
 
     on-no : replies_to e w.0 ≡ true → waiting_on e (w ∷ ws) ≡ waiting_on e ws
     on-no test = cond-false (not (replies_to e w.0)) (w ∷ waiting_on e ws) (waiting_on e ws) (ap not test)
@@ -206,7 +206,7 @@ answered_in-more e J (w ∷ ws) k =
         Goal (answered_now e (w ∷ ws)) (waiting_on e (w ∷ ws)) (is_success (first_reply (e ∷ J) w.0))
     whole nows ons first goal = rw (nows, ons, first) goal
 
-    by_success : replies_to e w.0 ≡ true → ((succeeds e ≡ true) ⊎ (succeeds e ≡ false)) →
+    by_success : replies_to e w.0 ≡ true → ((replies_ok e ≡ true) ⊎ (replies_ok e ≡ false)) →
         Goal (answered_now e (w ∷ ws)) (waiting_on e (w ∷ ws)) (is_success (first_reply (e ∷ J) w.0))
     by_success here (inl good) = whole (now-yes (rw (here, good) refl)) (on-no here) (first_reply-here e J w.0 here
         ∙ good) (rw (has_key-append w.1 (answered_now e ws) k) (grouped (has_key w.1 k) now later))
@@ -214,7 +214,7 @@ answered_in-more e J (w ∷ ws) k =
 
     by_reply : ((replies_to e w.0 ≡ true) ⊎ (replies_to e w.0 ≡ false)) →
         Goal (answered_now e (w ∷ ws)) (waiting_on e (w ∷ ws)) (is_success (first_reply (e ∷ J) w.0))
-    by_reply (inl here) = by_success here (cases_Bool (succeeds e))
+    by_reply (inl here) = by_success here (cases_Bool (replies_ok e))
     by_reply (inr other) =
         whole (now-no (rw other refl)) (on-yes other) (ap is_success (first_reply-later e J w.0 other))
         (swapped (has_key (if is_success (first_reply J w.0) then w.1 else []) k) now later

@@ -31,7 +31,7 @@ use Rattle.sem_msg.specs.Lookups.{kernel_of, denies, offered, service_named}
 use Rattle.sem_msg.specs.declared.code.Code.{Code}
 use Rattle.sem_msg.specs.declared.code.Code.TheVariants.{NoCap, NoService, BadKind}
 use Rattle.sem_machine.specs.Sides.{Side, row, cap, cap_in, own, slot, endpoint, parked, is_marked, call_counted, unparked, ask_taken}
-use Rattle.sem_machine.specs.Steps.{Step, plain, answer, unless}
+use Rattle.sem_machine.specs.Steps.{Step, unshown, answer, unless}
 use Rattle.sem_machine.specs.Asks.{asker, is_unawaited}
 use Rattle.sem_msg.specs.Uses.{memory_tests, send_tests, credit_tests}
 use Rattle.sem_machine.specs.Calls.{own_tests, destination_tests, child_made, narrowed, derive_tests, gate_tests, ask_made, obtain_tests, open_tests}
@@ -143,7 +143,7 @@ call_row-below T i s v (Clear src) = unless-passed (GrantsBelow s) (own_tests (o
 
 obtain_consent-below : (T : Setup) (i v : ℕ) (place : PlaceName) (target : Target) (s : Side) → GrantsBelow s (obtain_consent T i v place target s)
 obtain_consent-below T i v place target s = unless-passed (GrantsBelow s) (source_tests target (source T s v target)) _ _ (λ code. nothing s)
-    (λ passed. option-keeps (GrantsBelow s) (child_given T i place target s) (source T s v target) (plain s)
+    (λ passed. option-keeps (GrantsBelow s) (child_given T i place target s) (source T s v target) (unshown s)
     (λ p held. one s p.key _ (held-unmarked s (source T s v target) p held (source-held T s v target p held) passed.1.0)) (nothing s))
 
 -- the parent of a delegation, where the tests found it and no mark
@@ -170,7 +170,7 @@ ask_decided-below T i v a s =
 
 pub upcall_row-below : (T : Setup) (i : ℕ) (s : Side) (v : ℕ) → GrantsBelow s (upcall_row T i s v)
 unfolding upcall_row
-upcall_row-below T i s v = option-keeps (GrantsBelow s) (λ (a : Ask). ask_decided T i v a (ask_taken v s)) (slice_get (row s v).asks 0) (plain s)
+upcall_row-below T i s v = option-keeps (GrantsBelow s) (λ (a : Ask). ask_decided T i v a (ask_taken v s)) (slice_get (row s v).asks 0) (unshown s)
     (λ a there. ask_decided-below T i v a (ask_taken v s)) (nothing s)
 
 -- Parked calls.
@@ -203,7 +203,7 @@ resume_row-below T s v = resumed-below T (parked s v) (unparked v s)
 
 pub local_step-below : (T : Setup) (i : ℕ) (s : Side) (a : Act) (input : Option Message) → GrantsBelow s (local_step T i s a input)
 unfolding local_step
-local_step-below T i s (Calls v) input = option-keeps (GrantsBelow s) (call_row T i (call_counted v s) v) (next_call T s v) (plain s)
+local_step-below T i s (Calls v) input = option-keeps (GrantsBelow s) (call_row T i (call_counted v s) v) (next_call T s v) (unshown s)
     (λ c there. call_row-below T i (call_counted v s) v c) (nothing s)
 local_step-below T i s (Fetch from) input = nothing s
 local_step-below T i s Handle input = nothing s

@@ -26,7 +26,7 @@ use Rattle.sem_msg.specs.Lookups.{kernel_of, owner_of, service_named, denies}
 use Rattle.sem_msg.specs.declared.code.Code.{Code}
 use Rattle.sem_msg.specs.declared.code.Code.TheVariants.{Ok as OkCode, NoCap, NoService, BadKind, Dead, Refused}
 use Rattle.sem_machine.specs.Sides.{Side, own, cap, endpoint, parked, pending, is_alive, parked_as, asked, unlinked, with_endpoint, send}
-use Rattle.sem_machine.specs.Steps.{Step, plain, answer, cutting, asking}
+use Rattle.sem_machine.specs.Steps.{Step, unshown, answer, cutting, asking}
 use Rattle.sem_machine.specs.Asks.{target_vpe, asker, is_unawaited, ask_refused, call_refused}
 use Rattle.sem_msg.specs.Uses.{memory_tests, send_tests, credit_tests}
 use Rattle.sem_machine.specs.Endpoints.{with_ring}
@@ -45,8 +45,8 @@ pub record CallLeaves (P : Step → Type 0) (T : Setup) (i v : ℕ) (s : Side) :
   pub child : (src dst : ℕ) (object : Object) (p : Capability) → own s v src ≡ Some p → P (child_made T v dst object p.key s)
   pub ask : (dst : ℕ) (target : Target) → P (ask_made T i v dst target s)
   pub offer : (src w dst : ℕ) (p : Capability) → own s v src ≡ Some p → P (offer_made T i v w dst p s)
-  pub revoke : (src : ℕ) (c : Capability) → own s v src ≡ Some c → P (cutting c.key (plain (revoke_begun T i v c.key c.mark s)))
-  pub clear : (src : ℕ) (c : Capability) → own s v src ≡ Some c → c.mark ≡ None → P (cutting c.key (plain (clear_begun T i v c.key s)))
+  pub revoke : (src : ℕ) (c : Capability) → own s v src ≡ Some c → P (cutting c.key (unshown (revoke_begun T i v c.key c.mark s)))
+  pub clear : (src : ℕ) (c : Capability) → own s v src ≡ Some c → c.mark ≡ None → P (cutting c.key (unshown (clear_begun T i v c.key s)))
   pub bound : (ep src : ℕ) (c : Capability) → own s v src ≡ Some c →
       P (answer OkCode (with_endpoint v ep (Some (record { key = c.key; object = c.object; ring = [] })) s))
   pub rung : (ep : ℕ) (f : List ℕ → List ℕ) → P (answer OkCode (with_ring v ep f s))
@@ -84,15 +84,15 @@ module _ (P : Step → Type 0) (T : Setup) (i v : ℕ) (s : Side) (L : CallLeave
 
 -- the leaves of an upcall that decides an ask
 pub record ConsentLeaves (P : Step → Type 0) (T : Setup) (i v : ℕ) (a : Ask) (s : Side) : Type 0 where
-  pub nothing : P (plain s)
-  pub refused : (code : Code) → P (plain (ask_refused T i code a s))
+  pub nothing : P (unshown s)
+  pub refused : (code : Code) → P (unshown (ask_refused T i code a s))
   pub given : (place : PlaceName) (target : Target) (p : Capability) → a ≡ ObtainAsk place target → P (child_given T i place target s p)
   pub here : (parent : KeyName) (object : Object) (sel : ℕ) → a ≡ DelegateAsk parent object sel → P (delegate_here T v parent object sel s)
   pub prepared : (parent : KeyName) (object : Object) (sel : ℕ) → a ≡ DelegateAsk parent object sel → P (delegate_prepared T v parent object sel s)
 
 pub consented-by : (P : Step → Type 0) (T : Setup) (i v : ℕ) (a : Ask) (s : Side) → ConsentLeaves P T i v a s → P (consented T i v a s)
 consented-by P T i v (ObtainAsk place target) s L = unless-keeps P (source_tests target (source T s v target)) _ _ L.refused
-    (option-keeps P (child_given T i place target s) (source T s v target) (plain s) (λ p held. L.given place target p refl) L.nothing)
+    (option-keeps P (child_given T i place target s) (source T s v target) (unshown s) (λ p held. L.given place target p refl) L.nothing)
 consented-by P T i v (DelegateAsk parent object sel) s L =
     cond_both (kernel_of T parent.vpe == i) _ _ P
     (λ _. unless-keeps P (parent_tests (cap s parent) ++ destination_tests s v sel) _ _ L.refused (L.here parent object sel refl))
@@ -102,8 +102,8 @@ consented-by P T i v (DelegateAsk parent object sel) s L =
 pub decided-by : (P : Step → Type 0) → ((a : ℕ) (x : Step) → P x → P (asking a Dropped x)) → ((a : ℕ) (x : Step) → P x → P (asking a No x)) →
     ((a : ℕ) (x : Step) → P x → P (asking a Yes x)) → (T : Setup) (i v : ℕ) (a : Ask) (s : Side) → ConsentLeaves P T i v a s → P (ask_decided T i v a s)
 decided-by P dropped no' yes' T i v a s L =
-    cond_both (is_unawaited T i s a) _ _ P (λ _. dropped (asker a) (plain s) L.nothing)
-    (λ _. cond_both (denies T v (asker a)) _ _ P (λ _. no' (asker a) (plain (ask_refused T i Refused a s)) (L.refused Refused))
+    cond_both (is_unawaited T i s a) _ _ P (λ _. dropped (asker a) (unshown s) L.nothing)
+    (λ _. cond_both (denies T v (asker a)) _ _ P (λ _. no' (asker a) (unshown (ask_refused T i Refused a s)) (L.refused Refused))
     (λ _. yes' (asker a) (consented T i v a s) (consented-by P T i v a s L)))
 
 -- the leaves of handling a message from another kernel

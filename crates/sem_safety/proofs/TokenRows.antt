@@ -36,7 +36,7 @@ use Rattle.sem_msg.specs.Codes.{code_number}
 use Rattle.sem_msg.specs.declared.code.Code.TheVariants.{Ok as OkCode, Dead, NoCap, NoService, BadKind, Refused, Revoking, Gone}
 use Rattle.sem_machine.specs.Sides.{Side, row, cap, own, endpoint, parked, is_alive, call_counted, drawn, promised, parked_as, unparked, asked, ask_taken}
 use Rattle.sem_machine.specs.Sides.{linked, installed, send, with_inbox, pending_added, with_endpoint}
-use Rattle.sem_machine.specs.Steps.{Step, plain, replied, answer, cutting, asking}
+use Rattle.sem_machine.specs.Steps.{Step, unshown, replied, answer, cutting, asking}
 use Rattle.sem_machine.specs.Asks.{target_vpe, asker, is_unawaited, ask_refused}
 use Rattle.sem_msg.specs.Uses.{memory_tests, send_tests, credit_tests}
 use Rattle.sem_machine.specs.Endpoints.{message_rung, message_credited}
@@ -169,7 +169,7 @@ module _ (v0 n0 : ℕ) where
         (option-keeps (Within m s v) (λ (k : KeyName). ask_made T i v dst (OfferTarget k index) s) _ (answer BadKind s)
         (λ k there. ask_made-within T i v dst (OfferTarget k index) s is) (light m s v (answer BadKind s) is refl))
     call_row-within T i s v (Revoke src) is =
-        with_held-within (own s v src) _ s v is (λ c held. light m s v (cutting c.key (plain (revoke_begun T i v c.key c.mark s)))
+        with_held-within (own s v src) _ s v is (λ c held. light m s v (cutting c.key (unshown (revoke_begun T i v c.key c.mark s)))
         (begun-in (Others v0 n0) (Few m) L T i v c.key c.mark s is tt) refl)
     call_row-within T i s v (Bind ep src) is = unless-keeps (Within m s v) (bind_tests s v src) _ _ (λ code. light m s v (answer code s) is refl)
         (with_held-within (own s v src) _ s v is
@@ -183,7 +183,7 @@ module _ (v0 n0 : ℕ) where
     call_row-within T i s v (Credit ep) is = unless-keeps (Within m s v) (credit_tests (endpoint s v ep)) _ _ (λ code. light m s v (answer code s) is refl)
         (light m s v (answer OkCode (message_credited v ep s)) (L.keeps_rung s is v ep (λ ring. drop 1 ring)) refl)
     call_row-within T i s v (Clear src) is = unless-keeps (Within m s v) (own_tests (own s v src)) _ _ (λ code. light m s v (answer code s) is refl)
-        (with_held-within (own s v src) _ s v is (λ c held. light m s v (cutting c.key (plain (clear_begun T i v c.key s)))
+        (with_held-within (own s v src) _ s v is (λ c held. light m s v (cutting c.key (unshown (clear_begun T i v c.key s)))
         (cleared-in (Others v0 n0) (Few m) L T i v c.key s is tt) refl))
     call_row-within T i s v Exit is = light m s v (answer OkCode (ended T i v s)) (ended-in (Others v0 n0) AnyVpe (Few m) L T i v s is (λ k same. tt) tt) refl
 
@@ -230,9 +230,9 @@ module _ (v0 n0 : ℕ) where
     delegate_consent-within T i v parent object sel s is =
         cond_both (kernel_of T parent.vpe == i) _ _ (Within m s v)
         (λ _. unless-keeps (Within m s v) (parent_tests (cap s parent) ++ destination_tests s v sel) _ _
-        (λ code. light m s v (plain (ask_refused T i code (DelegateAsk parent object sel) s)) (refused-few T i code (DelegateAsk parent object sel) s is)
+        (λ code. light m s v (unshown (ask_refused T i code (DelegateAsk parent object sel) s)) (refused-few T i code (DelegateAsk parent object sel) s is)
         refl) (delegate_here-within T v parent object sel s is))
-        (λ _. unless-keeps (Within m s v) (destination_tests s v sel) _ _ (λ code. light m s v (plain (ask_refused T i code (DelegateAsk parent object sel) s))
+        (λ _. unless-keeps (Within m s v) (destination_tests s v sel) _ _ (λ code. light m s v (unshown (ask_refused T i code (DelegateAsk parent object sel) s))
         (refused-few T i code (DelegateAsk parent object sel) s is) refl) (delegate_prepared-within T v parent object sel s is))
 
     -- the child takes the place of its ask
@@ -258,9 +258,9 @@ module _ (v0 n0 : ℕ) where
     obtain_consent-within T i v place target s is =
         let few : Few m s = omega (arith, is) in
         unless-keeps (Within m s v) (source_tests target (source T s v target)) _ _
-        (λ code. light m s v (plain (ask_refused T i code (ObtainAsk place target) s)) (refused-few T i code (ObtainAsk place target) s few) refl)
-        (option-keeps (Within m s v) (child_given T i place target s) (source T s v target) (plain s)
-        (λ p held. child_given-within T i v place target s p is) (light m s v (plain s) few refl))
+        (λ code. light m s v (unshown (ask_refused T i code (ObtainAsk place target) s)) (refused-few T i code (ObtainAsk place target) s few) refl)
+        (option-keeps (Within m s v) (child_given T i place target s) (source T s v target) (unshown s)
+        (λ p held. child_given-within T i v place target s p is) (light m s v (unshown s) few refl))
 
     consented-within : (T : Setup) (i v : ℕ) (a : Ask) (s : Side) → of_side v0 n0 s + of_ask v0 n0 a ≤ m → Within m s v (consented T i v a s)
     consented-within T i v (ObtainAsk place target) s is = obtain_consent-within T i v place target s is
@@ -270,8 +270,8 @@ module _ (v0 n0 : ℕ) where
     ask_decided-within : (T : Setup) (i v : ℕ) (a : Ask) (s : Side) → of_side v0 n0 s + of_ask v0 n0 a ≤ m → Within m s v (ask_decided T i v a s)
     ask_decided-within T i v a s is =
         let few : Few m s = omega (arith, is) in
-        cond_both (is_unawaited T i s a) _ _ (Within m s v) (λ _. light m s v (asking (asker a) Dropped (plain s)) few refl)
-        (λ _. cond_both (denies T v (asker a)) _ _ (Within m s v) (λ _. light m s v (asking (asker a) No (plain (ask_refused T i Refused a s)))
+        cond_both (is_unawaited T i s a) _ _ (Within m s v) (λ _. light m s v (asking (asker a) Dropped (unshown s)) few refl)
+        (λ _. cond_both (denies T v (asker a)) _ _ (Within m s v) (λ _. light m s v (asking (asker a) No (unshown (ask_refused T i Refused a s)))
         (refused-few T i Refused a s few) refl) (λ _. consented-within T i v a s is))
 
   -- Messages.
@@ -341,10 +341,10 @@ module _ (v0 n0 : ℕ) where
         light m s v (answer OkCode (installed key (Some parent) sel object s)) (installed-in (Others v0 n0) (Few m) K s (let few : of_side v0 n0 s + 0 ≤ m =
         is in omega (arith, few)) key (Some parent) sel object tt) refl
     resumed-within T (Some ObtainCancelled) s v is = light m s v (answer Gone s) (let few : of_side v0 n0 s + 0 ≤ m = is in omega (arith, few)) refl
-    resumed-within T None s v is = light m s v (plain s) (let few : of_side v0 n0 s + 0 ≤ m = is in omega (arith, few)) refl
-    resumed-within T (Some (ObtainWait number sel)) s v is = light m s v (plain s) (let few : of_side v0 n0 s + 0 ≤ m = is in omega (arith, few)) refl
-    resumed-within T (Some (DelegateWait parent)) s v is = light m s v (plain s) (let few : of_side v0 n0 s + 0 ≤ m = is in omega (arith, few)) refl
-    resumed-within T (Some (RevokeWait j)) s v is = light m s v (plain s) (let few : of_side v0 n0 s + 0 ≤ m = is in omega (arith, few)) refl
+    resumed-within T None s v is = light m s v (unshown s) (let few : of_side v0 n0 s + 0 ≤ m = is in omega (arith, few)) refl
+    resumed-within T (Some (ObtainWait number sel)) s v is = light m s v (unshown s) (let few : of_side v0 n0 s + 0 ≤ m = is in omega (arith, few)) refl
+    resumed-within T (Some (DelegateWait parent)) s v is = light m s v (unshown s) (let few : of_side v0 n0 s + 0 ≤ m = is in omega (arith, few)) refl
+    resumed-within T (Some (RevokeWait j)) s v is = light m s v (unshown s) (let few : of_side v0 n0 s + 0 ≤ m = is in omega (arith, few)) refl
 
   -- Steps.
 
@@ -361,9 +361,9 @@ module _ (v0 n0 : ℕ) where
       let few : Few m counted = (weighed v0 n0 m).keeps_counted s (omega arith) v in
       let same : (row s v).next_number ≡ (row counted v).next_number =
       sym (ap (λ (r : VpeRow). r.next_number) (get_or-put_same no_vpe s.vpes v (record (row s v) { next_call = (row s v).next_call + 1 }))) in
-      option-keeps (Within m s v) (call_row T i counted v) (next_call T s v) (plain s)
+      option-keeps (Within m s v) (call_row T i counted v) (next_call T s v) (unshown s)
       (λ c there. same-next m s counted v (call_row T i counted v c) same (call_row-within m T i counted v c few))
-      (light m s v (plain s) (omega arith) refl)
+      (light m s v (unshown s) (omega arith) refl)
 
   pub upcall-within : (T : Setup) (i : ℕ) (s : Side) (v : ℕ) (input : Option Message) → Within (of_side v0 n0 s) s v (local_step T i s (Upcall v) input)
   unfolding local_step upcall_row
@@ -373,10 +373,10 @@ module _ (v0 n0 : ℕ) where
       let taken = side-taken v0 n0 s v in
       let same : (row s v).next_number ≡ (row left v).next_number =
       sym (ap (λ (r : VpeRow). r.next_number) (get_or-put_same no_vpe s.vpes v (record (row s v) { asks = drop 1 (row s v).asks }))) in
-      option-keeps (Within m s v) (λ (a : Ask). ask_decided T i v a left) (slice_get (row s v).asks 0) (plain s)
+      option-keeps (Within m s v) (λ (a : Ask). ask_decided T i v a left) (slice_get (row s v).asks 0) (unshown s)
       (λ a there. let first : of_option (of_ask v0 n0) (slice_get (row s v).asks 0) ≡ of_ask v0 n0 a = ap (of_option (of_ask v0 n0)) there in
       same-next m s left v (ask_decided T i v a left) same (ask_decided-within m T i v a left (omega (arith, taken, first))))
-      (light m s v (plain s) (omega arith) refl)
+      (light m s v (unshown s) (omega arith) refl)
 
   -- where another VPE would draw, nothing is added
   no-slack : (m : ℕ) (s : Side) (x : Step) → Within m s (suc v0) x → of_side v0 n0 x.side + of_grant v0 n0 x.outcome.grant ≤ m

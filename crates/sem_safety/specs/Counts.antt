@@ -9,8 +9,8 @@ sum_to zero f = 0
 sum_to (suc n) f = sum_to n f + f n
 
 -- one, if the message passes the test
-abbrev pub one_if : (Message → Bool) → Message → ℕ
-one_if test m = if test m then 1 else 0
+abbrev pub count_if : (Message → Bool) → Message → ℕ
+count_if test m = if test m then 1 else 0
 
 -- how many messages that pass the test are on the ways between n kernels
 abbrev pub in_flight : ℕ → (Message → Bool) → World → ℕ

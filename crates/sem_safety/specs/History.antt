@@ -44,8 +44,8 @@ call_by act ks = []
 abbrev pub replies_to : Entry → ℕ → Bool
 replies_to e v = option_map_or (λ r. r.vpe == v) e.reply false
 
-abbrev pub succeeds : Entry → Bool
-succeeds e = option_map_or (λ r. r.code == 0) e.reply false
+abbrev pub replies_ok : Entry → Bool
+replies_ok e = option_map_or (λ r. r.code == 0) e.reply false
 
 -- the history with one more entry
 abbrev pub note : History → Entry → History
@@ -55,7 +55,7 @@ note h e = record {
   cut = h.cut ++ cut_at h.grants e;
   ended = h.ended ++ option_to_list (ended_by e.event.act e.detail);
   waiting = filter (λ w. not (replies_to e w.0)) h.waiting ++ call_by e.event.act (cut_at h.grants e);
-  answered = h.answered ++ flat_map (λ w. w.1) (filter (λ w. replies_to e w.0 && succeeds e) h.waiting);
+  answered = h.answered ++ flat_map (λ w. w.1) (filter (λ w. replies_to e w.0 && replies_ok e) h.waiting);
   entries = h.entries + 1;
 }
 

@@ -29,7 +29,7 @@ use Rattle.sem_msg.specs.declared.code.Code.TheVariants.{Ok as OkCode, Refused}
 use Rattle.sem_msg.specs.Codes.{code_number}
 use Rattle.sem_machine.specs.Sound.{IsNamed, IsLocalName, IsSoundObject, IsSoundAsk, IsSoundCall, kept, IsSoundCap, IsSound, one_if}
 use Rattle.sem_machine.specs.Sides.{Side, row, slot, cap, own, parked, cap_added, unparked, drawn, promised, ready, linked, installed, pending_added, send}
-use Rattle.sem_machine.specs.Steps.{Step, plain, unless}
+use Rattle.sem_machine.specs.Steps.{Step, unshown, unless}
 use Rattle.sem_machine.specs.Asks.{asker, waits_for, is_unawaited, ask_refused}
 use Rattle.sem_machine.specs.Calls.{next_key, destination_tests}
 use Rattle.sem_machine.specs.Upcalls.{source, source_tests, given, given_kind, given_here, child_given, obtain_consent, parent_tests, delegate_here}
@@ -159,7 +159,7 @@ module _ (T : Setup) (valid : IsSetup T) (i : ℕ) (few : i < T.kernels) where
           ((omega arith, omega arith), ((omega arith, omega arith), ((omega arith, omega arith), tt)))
           (λ code refusal. let refuses = ask_refused-sound T valid i few s is code (ObtainAsk place target) ask refusal
           (λ local. is-waiting (ObtainAsk place target) (parked s place.vpe) (awaits local)) in (refuses.0, (refuses.1, refl)))
-          (λ passed. option-keeps (λ x. IsSound T i x.side × Unanswered s x) (child_given T i place target s) (source T s v target) (plain s)
+          (λ passed. option-keeps (λ x. IsSound T i x.side × Unanswered s x) (child_given T i place target s) (source T s v target) (unshown s)
           (λ p held. let gives = child_given-sound p (source-among v target p held) in (gives.0, (gives.1, refl))) (is, (no-more s, refl)))
 
     -- A delegate.
@@ -235,7 +235,7 @@ module _ (T : Setup) (valid : IsSetup T) (i : ℕ) (few : i < T.kernels) where
           delegate_prepared-sound (eqb-false (kernel_of T parent.vpe) i remote) passed in (prepares.0, (prepares.1, refl))))
         where
           refused : (code : Code) → IsRefusal (code_number code) → IsSound T i (ask_refused T i code (DelegateAsk parent object sel) s)
-              × Unanswered s (plain (ask_refused T i code (DelegateAsk parent object sel) s))
+              × Unanswered s (unshown (ask_refused T i code (DelegateAsk parent object sel) s))
           refused code refusal = let refuses = ask_refused-sound T valid i few s is code (DelegateAsk parent object sel) ask refusal
               (λ here. is-waiting (DelegateAsk parent object sel) (parked s parent.vpe) (awaits here)) in (refuses.0, (refuses.1, refl))
 

@@ -37,7 +37,7 @@ use Rattle.sem_msg.specs.declared.code.Code.TheVariants.{Ok as OkCode, NoCap, No
 use Rattle.sem_machine.specs.Sound.{IsNamed, IsLocalName, IsSoundObject, IsTargetNamed, IsSoundCall, kept, IsSoundEndpoint, IsSound, ids_owed, ids_paid, one_if}
 use Rattle.sem_machine.specs.Sides.{Side, row, slot, cap, cap_in, own, endpoint, parked, drawn, promised, parked_as, asked, linked, installed, with_endpoint}
 use Rattle.sem_machine.specs.Sides.{send}
-use Rattle.sem_machine.specs.Steps.{Step, answer, plain}
+use Rattle.sem_machine.specs.Steps.{Step, answer, unshown}
 use Rattle.sem_machine.specs.Asks.{target_vpe}
 use Rattle.sem_msg.specs.Uses.{memory_tests, send_tests, credit_tests, rung, credited, ring_changed}
 use Rattle.sem_machine.specs.Calls.{object_passes, is_of, stays_at_home, is_wider, next_key, next_place, with_held, destination_tests, derive_tests, narrowed}
@@ -127,7 +127,7 @@ module _ (T : Setup) (valid : IsSetup T) (i : ℕ) (few : i < T.kernels) where
       replied-now = (((λ w other. omega arith), (λ fit. fit)), let none = ap (λ (o : Option Parked). one_if o) idle in omega (arith, none))
 
       -- the call is parked
-      parked-now : (p : Parked) → Answered v s (plain (parked_as v p s))
+      parked-now : (p : Parked) → Answered v s (unshown (parked_as v p s))
       parked-now p = (parked-but s v (Some p), let most = one-most (parked (parked_as v p s) v) in omega (arith, most))
 
       -- the destination is free and a number is left
@@ -164,7 +164,7 @@ module _ (T : Setup) (valid : IsSetup T) (i : ℕ) (few : i < T.kernels) where
           (ap kept unparked') refl in
           let place_valid : IsValidPlace place = (at.1, omega (arith, vpe), omega (arith, below)) in
           cond_both (kernel_of T w == i) (asked w (ObtainAsk place target) waiting) (send (kernel_of T w) (ObtainReq place target) waiting) (λ t. IsSound T i t
-          × Answered v s (plain t))
+          × Answered v s (unshown t))
           (λ here. (
             asked-sound T valid i few None None None None waiting waits w (eqb-true (kernel_of T w) i here) (ObtainAsk place target)
                 ((place_valid, at.0), target_valid, target_named),
@@ -193,7 +193,7 @@ module _ (T : Setup) (valid : IsSetup T) (i : ℕ) (few : i < T.kernels) where
           (λ q same. subst (IsSoundCall T i v) (same_Some (DelegateWait p.key) q same) (there.1, sound.own)) refl in
           let gives = subst IsDelegable (sym sound.kind) (delegable p.object away) in
           cond_both (kernel_of T w == i) (asked w (DelegateAsk p.key p.object dst) waiting) (send (kernel_of T w) (DelegateReq p.key p.object w dst) waiting)
-          (λ t. IsSound T i t × Answered v s (plain t))
+          (λ t. IsSound T i t × Answered v s (unshown t))
           (λ here. (
             asked-sound T valid i few None None None None waiting waits w (eqb-true (kernel_of T w) i here) (DelegateAsk p.key p.object dst)
                 (sound.own.0, sound.object, sound.kind, gives, selector),

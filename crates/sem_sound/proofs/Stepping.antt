@@ -19,7 +19,7 @@ use Rattle.sem_msg.specs.Versions.{most_vpes}
 use Rattle.sem_msg.specs.Setup.{Setup, IsSetup, IsVpeDecl}
 use Rattle.sem_msg.specs.Lookups.{decl, kernel_of, calls_of}
 use Rattle.sem_machine.specs.Sides.{Side, row, parked, is_alive, call_counted, ask_taken, with_inbox, unparked}
-use Rattle.sem_machine.specs.Steps.{plain, Step}
+use Rattle.sem_machine.specs.Steps.{unshown, Step}
 use Rattle.sem_machine.specs.Calls.{call_row}
 use Rattle.sem_machine.specs.Upcalls.{ask_decided, upcall_row}
 use Rattle.sem_machine.specs.Resumes.{can_resume, resumed, resume_row}
@@ -77,7 +77,7 @@ module _ (T : Setup) (valid : IsSetup T) (i : ℕ) (few : i < T.kernels) where
         from (eqb-true (kernel_of T v) i one.0) (none-is (parked s v) three.0) (next_call T s v) refl
       where
         from : kernel_of T v ≡ i → parked s v ≡ None → (o : Option Call) → next_call T s v ≡ o →
-            Kept (Calls v) (option_map_or (call_row T i (call_counted v s) v) o (plain s))
+            Kept (Calls v) (option_map_or (call_row T i (call_counted v s) v) o (unshown s))
         from local idle None at = (is, omega arith, λ fit. fit)
         from local idle (Some c) at =
             let t : Side = call_counted v s in
@@ -97,7 +97,7 @@ module _ (T : Setup) (valid : IsSetup T) (i : ℕ) (few : i < T.kernels) where
     unfolding upcall_row
     upcalled-sound v local = from (slice_get (row s v).asks 0) refl
       where
-        from : (o : Option Ask) → slice_get (row s v).asks 0 ≡ o → Kept (Upcall v) (option_map_or (λ a. ask_decided T i v a (ask_taken v s)) o (plain s))
+        from : (o : Option Ask) → slice_get (row s v).asks 0 ≡ o → Kept (Upcall v) (option_map_or (λ a. ask_decided T i v a (ask_taken v s)) o (unshown s))
         from None at = (is, omega arith, λ fit. fit)
         from (Some a) at =
             decides a (decided-sound T valid i few (ask_taken v s) (taken-sound T valid i few None None None None s is v local) v local a
@@ -150,10 +150,10 @@ module _ (T : Setup) (valid : IsSetup T) (i : ℕ) (few : i < T.kernels) where
             subst (λ q. IsSoundMessage T i q m) parts.0 (subst (IsSoundMessage T i from) parts.1 (fits', kernel, other))
     step-sound Handle enabled input fits = from s.inbox refl
       where
-        from : (o : Option (ℕ × Message)) → s.inbox ≡ o → Kept Handle (plain (option_map_or (λ m. handled T i (with_inbox None s) m.0 m.1) o s))
+        from : (o : Option (ℕ × Message)) → s.inbox ≡ o → Kept Handle (unshown (option_map_or (λ m. handled T i (with_inbox None s) m.0 m.1) o s))
         from None at = (is, omega arith, λ fit. fit)
         from (Some (k, m)) at =
-            quiet Handle (plain (handled T i (with_inbox None s) k m))
+            quiet Handle (unshown (handled T i (with_inbox None s) k m))
             (handled-sound T valid i few (with_inbox None s) (inbox-sound T valid i few None None None None s is None (λ q x none. absurd cc)) k m
             (is.inbox k m at)) refl
     step-sound (Upcall v) enabled input fits =
@@ -166,4 +166,4 @@ module _ (T : Setup) (valid : IsSetup T) (i : ℕ) (few : i < T.kernels) where
         (sent-sound T valid i few None None None None s is to (ltb-true to T.kernels other.0), omega arith, λ fit. fit)
     step-sound (Kill v) enabled input fits =
         let ends = ended-sound T valid i few s is v (eqb-true (kernel_of T v) i (and_parts (kernel_of T v == i) _ enabled).0) in
-        quiet (Kill v) (plain (ended T i v s)) (ends.0, chained s (unparked v s) (ended T i v s) (unparked-no_more s v) ends.1) refl
+        quiet (Kill v) (unshown (ended T i v s)) (ends.0, chained s (unparked v s) (ended T i v s) (unparked-no_more s v) ends.1) refl

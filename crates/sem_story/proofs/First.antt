@@ -13,7 +13,7 @@ use Rattle.sem_machine.specs.Journals.{root_keys}
 use Rattle.sem_query.specs.declared.holder.Holder.{Holder}
 use Rattle.sem_query.specs.declared.holder.Holder.TheVariants.{Way, No}
 use Rattle.sem_query.specs.Whereabouts.{is_coming, held_as, unheld, whereabouts}
-use Rattle.sem_query.specs.Lives.{KeyLife, life_of_root, lives, told, told_of}
+use Rattle.sem_query.specs.Lives.{KeyLife, life_of_root, lives, told_holder, told_of}
 use Rattle.sem_story.specs.Stages.{stage_of, is_ready, stage_in, seen_by}
 
 -- the lives of roots tell of none that it is on its way at the start
@@ -21,8 +21,8 @@ first-told : (h : KeyName → Holder) (k : KeyName) (ks : List KeyName) → told
 first-told h k [] e = cc
 first-told h k (q ∷ ks) e = by (key_eq q k) (find (λ (l : KeyLife). key_eq l.key k) (map (λ (x : KeyName). life_of_root x (h x)) ks)) (first-told h k ks) e
   where
-    by : (b : Bool) (rest : Option KeyLife) → (option_map_or (told 0) rest No ≡ Way → ⊥) →
-        option_map_or (told 0) (if b then Some (life_of_root q (h q)) else rest) No ≡ Way → ⊥
+    by : (b : Bool) (rest : Option KeyLife) → (option_map_or (told_holder 0) rest No ≡ Way → ⊥) →
+        option_map_or (told_holder 0) (if b then Some (life_of_root q (h q)) else rest) No ≡ Way → ⊥
     by true rest others is = cc
     by false rest others is = others is
 

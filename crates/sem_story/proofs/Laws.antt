@@ -28,7 +28,7 @@ use Rattle.sem_query.specs.declared.holder.Holder.TheVariants.{No}
 use Rattle.sem_query.specs.Whereabouts.{is_coming_to, is_coming, held_as, unheld, whereabouts_after, Passes}
 use Rattle.sem_query.specs.Whereabouts.Passes.{born_on_its_way, born_held, stays_nowhere, stays_on_its_way, arrives, is_lost, stays_unmarked, stays_marked}
 use Rattle.sem_query.specs.Whereabouts.Passes.{gets_marked, loses_mark, is_swept, is_removed}
-use Rattle.sem_query.specs.Changes.{is_revoking, grants_key, IsRootOf, IsReadyFor, MayChange, seen_at_home}
+use Rattle.sem_query.specs.Changes.{may_revoke, grants_key, IsRootOf, IsReadyFor, MayChange, seen_at_home}
 use Rattle.sem_query.specs.Changes.IsRootOf.{of_cut, of_request, of_end}
 use Rattle.sem_query.specs.Changes.MayChange.{by_grant, by_message, by_resume, by_end, by_revoking}
 use Rattle.sem_story.specs.Stages.{is_ready, stage_in, seen_by}
@@ -147,12 +147,12 @@ module _ (T : Setup) (W : World) (e : Entry) (k : KeyName) where
   -- a call that is ready leaves only by an entry that may change where the key is
   leaves-may : is_ready k (side W i) ≡ true → leaves_by T k e ≡ true → MayChange T W e k
   leaves-may ready is =
-      let parts = and-parts (i == e.event.kernel) (resumes k.vpe e.event.act || (is_revoking e && begins_at k e)) is in
+      let parts = and-parts (i == e.event.kernel) (resumes k.vpe e.event.act || (may_revoke e && begins_at k e)) is in
       let here : i ≡ e.event.kernel = eqb-true i e.event.kernel parts.0 in
       let ready_here : IsReadyFor k (side W e.event.kernel) = ap (λ (j : ℕ). is_ready k (side W j)) (sym here) ∙ ready in
-      elim (or-parts (resumes k.vpe e.event.act) (is_revoking e && begins_at k e) parts.1) [
+      elim (or-parts (resumes k.vpe e.event.act) (may_revoke e && begins_at k e) parts.1) [
         | inl resumed ↦ by_resume here (resumes-is k.vpe e.event.act resumed) ready_here
-        | inr revoked ↦ let both = and-parts (is_revoking e) (begins_at k e) revoked in by_end here both.0 (begins-root both.1) ready_here
+        | inr revoked ↦ let both = and-parts (may_revoke e) (begins_at k e) revoked in by_end here both.0 (begins-root both.1) ready_here
       ]
 
   -- what an entry that may change where the key is, and does not grant it, does

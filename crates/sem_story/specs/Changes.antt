@@ -5,7 +5,7 @@ use Rattle.sem_machine.specs.Prelude.{KeyName, key_eq, Act, Handle, Resume, Deta
 use Rattle.sem_machine.specs.Prelude.{RevokeReq, Setup, owner_of}
 use Rattle.sem_machine.specs.Journals.{ends}
 use Rattle.sem_query.specs.Whereabouts.{brings}
-use Rattle.sem_query.specs.Changes.{is_revoking, grants_key}
+use Rattle.sem_query.specs.Changes.{may_revoke, grants_key}
 use Rattle.sem_story.specs.declared.stages.Stage.{Stage}
 use Rattle.sem_story.specs.declared.stages.Stage.TheVariants.{Nowhere, OnItsWay, Arrived, Held}
 
@@ -37,7 +37,7 @@ resumes v act = false
 abbrev pub leaves_by : Setup → KeyName → Entry → Bool
 leaves_by T k e =
     (owner_of T k == e.event.kernel)
-    && (resumes k.vpe e.event.act || (is_revoking e && begins_at k e))
+    && (resumes k.vpe e.event.act || (may_revoke e && begins_at k e))
 
 -- the stage of a key that its kernel tells nothing of after the entry: by whether the entry grants
 -- it, and whether it ends what brings it

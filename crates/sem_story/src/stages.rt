@@ -8,7 +8,7 @@ ghost use Rattle.sem_machine.specs.Sides.{no_side};
 ghost use Rattle.sem_machine.specs.Machine.{side};
 ghost use Rattle.sem_machine.specs.Journals.{ends};
 ghost use Rattle.sem_query.specs.Whereabouts.{brings as brings_spec};
-ghost use Rattle.sem_query.specs.Changes.{is_revoking as is_revoking_spec, grants_key};
+ghost use Rattle.sem_query.specs.Changes.{may_revoke as is_revoking_spec, grants_key};
 ghost use Rattle.sem_story.specs.Stages.{seen_by};
 ghost use Rattle.sem_story.specs.Changes.{is_brought_by as is_brought_by_spec};
 ghost use Rattle.sem_story.specs.Changes.{asks_for as asks_for_spec};

@@ -19,7 +19,7 @@ use Rattle.sem_msg.specs.declared.state.Up.{Up}
 use Rattle.sem_msg.specs.declared.state.Up.TheVariants.{Local, Remote}
 use Rattle.sem_msg.specs.Setup.{Setup}
 use Rattle.sem_msg.specs.Rows.{JobRow, VpeRow}
-use Rattle.sem_msg.specs.JobRows.{job_of, job_removed, count_lowered, told, next_done}
+use Rattle.sem_msg.specs.JobRows.{job_of, job_removed, count_lowered, token_given_back, next_done}
 use Rattle.sem_vpe.specs.VpeTable.{VpeTable, AreOurs, IsOurs}
 use Rattle.sem_caps.specs.CapStore.{key_and_selector}
 use Rattle.sem_machine.specs.Sides.{Side}
@@ -175,12 +175,12 @@ removed-kept T j xs ups = All-filter (λ x. not (x.id == j)) (λ (x : JobRow). I
 pub up-found : (T : Setup) (j : ℕ) (xs : List JobRow) (x : JobRow) → UpsOf T xs → job_of xs j ≡ Some x → IsUpOf T x.up
 up-found T j xs x ups some = let there = found (λ y. y.id == j) xs x some in All-contains (λ (x : JobRow). IsUpOf T x.up) xs x ups there.0
 
-pub told-kept : (T : Setup) (up : Option Up) (xs : List JobRow) → UpsOf T xs → UpsOf T (told up xs)
+pub told-kept : (T : Setup) (up : Option Up) (xs : List JobRow) → UpsOf T xs → UpsOf T (token_given_back up xs)
 told-kept T None xs ups = ups
 told-kept T (Some (Local j)) xs ups = lowered-kept T j xs ups
 told-kept T (Some (Remote kernel j)) xs ups = ups
 
-pub told-length : (up : Option Up) (xs : List JobRow) → length (told up xs) ≡ length xs
+pub told-length : (up : Option Up) (xs : List JobRow) → length (token_given_back up xs) ≡ length xs
 told-length None xs = refl
 told-length (Some (Local j)) xs = length-map xs _
 told-length (Some (Remote kernel j)) xs = refl

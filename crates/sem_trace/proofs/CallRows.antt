@@ -20,7 +20,7 @@ use Rattle.sem_trace.specs.declared.call_forms.CallKind.TheVariants.{Exit as Exi
 use Rattle.sem_trace.specs.Forms.{Place, form_fault, calls, choice, word_at}
 use Rattle.sem_trace.specs.Declarations.{call_from}
 use Rattle.sem_trace.specs.Words.{call_words}
-use Rattle.sem_trace.specs.Places.{IsRead, CanStandIn, AreOf}
+use Rattle.sem_trace.specs.Places.{AreRead, CanStandIn, AreOf}
 use Rattle.sem_trace.specs.Readers.{ReadsCall}
 use Rattle.sem_trace.specs.Slots.{slot_place}
 use Rattle.sem_trace.specs.CallForms.{IsRow, call_row, call_with}
@@ -194,7 +194,7 @@ pub call_read : (version : ℕ) (form : CallForm) (name : List ℕ) (words all r
     (call : Call) →
     IsRow form →
     name ≡ form.name.now → all ≡ name ∷ words → call ≡ call_with form.kind ns → length ns ≡ 5 →
-    IsRead (map (slot_place version 1) form.slots.now) (map decimal (take (length form.slots.now) ns)) words rest →
+    AreRead (map (slot_place version 1) form.slots.now) (map decimal (take (length form.slots.now) ns)) words rest →
     CanStandIn (map (slot_place version 1) form.slots.now) ns → AreOf (length form.slots.now) words ns →
     ReadsCall version all rest (Ok call)
 call_read version form name words all rest ns call row named is call_is five read stand are =

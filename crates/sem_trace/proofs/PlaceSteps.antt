@@ -13,7 +13,7 @@ use Rattle.sem_trace.specs.declared.fault.Cause.{Cause}
 use Rattle.sem_trace.specs.declared.fault.Cause.TheVariants.{Missing, UnknownWord, BadNumber, OutOfRange}
 use Rattle.sem_trace.specs.Forms.{Place, place_fault, form_fault, word_fault, word_at, parts_of, are_numbers, are_within, is_between}
 use Rattle.sem_trace.specs.Forms.Place.{Word, Number, Dotted}
-use Rattle.sem_trace.specs.Places.{left_at, placed, CanStand, CanStandIn}
+use Rattle.sem_trace.specs.Places.{left_at, fault_after, CanStand, CanStandIn}
 use Rattle.std.proofs.Common.{not, subst, if◌then◌else◌}
 use Rattle.std.proofs.lemmas.Option.{none-some, same_Some}
 use Rattle.std.specs.List.{list_any}
@@ -57,7 +57,7 @@ faults places place word words all cause is fault = rw (is, fault, place_left pl
 
 -- the fault of a line
 pub line_fault_is : (places : List Place) (words rest : List (List ℕ)) (cause : Cause) → form_fault places words ≡ Some (cause, left_at cause rest) →
-    word_fault places words ≡ Some (placed cause words rest)
+    word_fault places words ≡ Some (fault_after cause words rest)
 unfolding word_fault
 line_fault_is places words rest cause is = rw is refl
 

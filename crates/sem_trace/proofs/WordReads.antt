@@ -6,7 +6,7 @@ use Rattle.std.specs.Str.{bytes_eq}
 use Rattle.sem_trace.specs.declared.fault.Cause.{Cause}
 use Rattle.sem_trace.specs.Forms.{Place, place_fault}
 use Rattle.sem_trace.specs.Forms.Place.{Word}
-use Rattle.sem_trace.specs.Places.{IsRead, Reads}
+use Rattle.sem_trace.specs.Places.{AreRead, Reads}
 use Rattle.sem_trace.proofs.PlaceSteps.{fills, faults, the_word}
 
 -- the first word is read, where its place is that of what it spells
@@ -20,7 +20,7 @@ read_place place text word words all (Err cause) is fault spelled = λ more. fau
 
 -- the first word is the only one that can stand in its place
 pub read_name : (word name : List ℕ) (words all : List (List ℕ)) (same : Bool) → same ≡ true → same ≡ bytes_eq word name → all ≡ word ∷ words →
-    IsRead (Word (name ∷ []) ∷ []) (name ∷ []) all words
+    AreRead (Word (name ∷ []) ∷ []) (name ∷ []) all words
 read_name word name words all same yes' is first = record {
   filled = λ more. fills more (Word (name ∷ [])) word words all first (the_word word name same yes' is);
   spelled = first ∙ ap (λ (w : List ℕ). w ∷ words) ((bytes_eq-Decides word name).0 (sym is ∙ yes'));

@@ -108,12 +108,12 @@ unfoldable pub kill_in : List Declaration → ℕ → Option ℕ
 kill_in ds v = first_some (said_kill v) ds
 
 -- how many calls there are
-abbrev pub is_call : Declaration → Bool
-is_call (Calls v call) = true
-is_call d = false
+abbrev pub is_call_line : Declaration → Bool
+is_call_line (Calls v call) = true
+is_call_line d = false
 
 unfoldable pub call_number : List Declaration → ℕ
-call_number ds = count_by is_call ds
+call_number ds = count_by is_call_line ds
 
 -- whether the last line was said
 abbrev pub is_end : Declaration → Bool

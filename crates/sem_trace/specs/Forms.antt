@@ -101,8 +101,8 @@ node version = up_to (most_vpes version - 1)
 abbrev pub byte : Place
 byte = up_to 255
 
-abbrev pub endpoint : Place
-endpoint = up_to (ENDPOINTS - 1)
+abbrev pub endpoint_place : Place
+endpoint_place = up_to (ENDPOINTS - 1)
 
 abbrev pub rights : Place
 rights = up_to 7
@@ -147,11 +147,11 @@ calls version =
     ∷ (codes "open", byte ∷ byte ∷ [])
     ∷ (codes "ask", byte ∷ byte ∷ byte ∷ [])
     ∷ (codes "revoke", byte ∷ [])
-    ∷ (codes "bind", endpoint ∷ byte ∷ [])
-    ∷ (codes "read", endpoint ∷ word ∷ word ∷ [])
-    ∷ (codes "write", endpoint ∷ word ∷ word ∷ [])
-    ∷ (codes "send", endpoint ∷ word ∷ [])
-    ∷ (codes "credit", endpoint ∷ [])
+    ∷ (codes "bind", endpoint_place ∷ byte ∷ [])
+    ∷ (codes "read", endpoint_place ∷ word ∷ word ∷ [])
+    ∷ (codes "write", endpoint_place ∷ word ∷ word ∷ [])
+    ∷ (codes "send", endpoint_place ∷ word ∷ [])
+    ∷ (codes "credit", endpoint_place ∷ [])
     ∷ (codes "exit", [])
     ∷ (codes "clear", byte ∷ [])
     ∷ []

@@ -75,12 +75,12 @@ told_fault (Ok x) rest = None
 told_fault (Err cause) rest = Some (cause, left_at cause rest)
 
 -- the fault of that cause in a line with these words, if that many are left after it
-abbrev pub placed : Cause → (words rest : List (List ℕ)) → LineFault
-placed cause words rest = at_word (length words - left_at cause rest) cause
+abbrev pub fault_after : Cause → (words rest : List (List ℕ)) → LineFault
+fault_after cause words rest = at_word (length words - left_at cause rest) cause
 
 -- the words that spell what is read come first and fill the places, and the words after them are
 -- left
-pub record IsRead (places : List Place) (spelling old new : List (List ℕ)) : Type 0 where
+pub record AreRead (places : List Place) (spelling old new : List (List ℕ)) : Type 0 where
   pub filled : Fills places old new
   pub spelled : old ≡ spelling ++ new
 
@@ -89,4 +89,4 @@ pub record IsRead (places : List Place) (spelling old new : List (List ℕ)) : T
 abbrev pub Reads : {X : Type 0} → List Place → (X → List (List ℕ)) → List (List ℕ) → List (List ℕ) → Result X Cause →
     Type 0
 Reads places spelling old new result =
-    MatchResult result (λ x. IsRead places (spelling x) old new) (Fails places old new)
+    MatchResult result (λ x. AreRead places (spelling x) old new) (Fails places old new)

@@ -5,14 +5,14 @@ use Rattle.sem_trace.specs.declared.slots.Slot.TheVariants.{Selector, ServiceNam
 use Rattle.sem_trace.specs.declared.slots.Slot.TheVariants.{Length, Offset, Label, SlotCount, Credits, Vpe, Pe}
 use Rattle.sem_trace.specs.declared.slots.Slot.TheVariants.{KernelCount, Kernel, Window, Replies, Code, Job, CallNumber}
 use Rattle.sem_trace.specs.declared.call_forms.CallForm.{CallForm}
-use Rattle.sem_trace.specs.Forms.{Place, up_to, node, byte, endpoint, rights, slots, word, kernel_count, window}
+use Rattle.sem_trace.specs.Forms.{Place, up_to, node, byte, endpoint_place, rights, slots, word, kernel_count, window}
 
 -- the place of a number of that meaning, in a text of that version with that many kernels
 abbrev pub slot_place : (version kernels : ℕ) → Slot → Place
 slot_place version kernels Selector = byte
 slot_place version kernels ServiceName = byte
 slot_place version kernels OfferIndex = byte
-slot_place version kernels Endpoint = endpoint
+slot_place version kernels Endpoint = endpoint_place
 slot_place version kernels Rights = rights
 slot_place version kernels Base = word
 slot_place version kernels Length = word

@@ -2,7 +2,7 @@
 ghost use Rattle.std.specs.Prelude.{◌≡◌, ◌≤◌, [], ◌∷◌, length, MatchOption, IfOk, IfErr};
 ghost use Rattle.sem_trace.specs.TextLines.{lines_of, words_of};
 ghost use Rattle.sem_trace.specs.Forms.{Place, form_fault};
-ghost use Rattle.sem_trace.specs.Places.{Fails, told_fault, placed};
+ghost use Rattle.sem_trace.specs.Places.{Fails, told_fault, fault_after};
 
 use crate::fault::{Cause, LineFault};
 use crate::text_lines::{next_line, next_word};
@@ -114,7 +114,7 @@ impl<'a> Words<'a> {
     /// The fault of that cause in the line, if these words are left after the faulty one. Takes no
     /// memory.
     pub fn fault_in(&self, line: &[u8], cause: Cause) -> LineFault
-        ensures { result ≡ placed cause (words_of line.now) self.now }
+        ensures { result ≡ fault_after cause (words_of line.now) self.now }
     {
         let left = match cause {
             Cause::Missing => 0,

@@ -19,7 +19,7 @@ use Rattle.sem_turn.specs.declared.rule.Share.{Share}
 use Rattle.sem_turn.specs.declared.rule.View.{View}
 use Rattle.sem_turn.specs.Passes.{has_place, IsWhole, Follows}
 use Rattle.sem_turn.specs.Rule.{Board, IsShareOf, IsFree, IsTurnHeld, IsInTurn, carries, once_below, share, view}
-use Rattle.sem_turn.specs.Steps.{Sat, Takes, Returns, shares_in}
+use Rattle.sem_turn.specs.Steps.{Sat, TakesOut, Returns, shares_in}
 use Rattle.sem_turn.specs.Seats.{out_with}
 use Rattle.sem_turn.proofs.Totals.{is_of_hit, shares_of, shares_of-cons, total_set, total_two, set_at}
 use Rattle.sem_turn.proofs.Fitting.{fits-followed, fits-self, shares_of-in}
@@ -61,11 +61,11 @@ module _ (T : Setup) (id : ℕ) (ps : List Share) (st : Step (Option FabricValue
   Taken ws hs =
       (w : View) × (a : Act (Option FabricValue)) × Valid hs [] a
       × IsInTurn T (stepped (board ws hs views) 0 (either (slice_index ws 0 == 0) 1 (slice_index ws 0)) id [] w a)
-      × Takes T st (view ps None, []) (slice_index ws 0) (w, carried_after [] a)
+      × TakesOut T st (view ps None, []) (slice_index ws 0) (w, carried_after [] a)
 
 -- a try to take keeps the rule: it takes, or finds the turn held
 take_moves : (T : Setup) (id : ℕ) (ps : List Share) (st : Step (Option FabricValue)) → 0 < length ps
-    → Allows (IsInTurn T) 1 id (view ps None, []) 0 (λ m. either (m == 0) 1 m) (Takes T st (view ps None, []))
+    → Allows (IsInTurn T) 1 id (view ps None, []) 0 (λ m. either (m == 0) 1 m) (TakesOut T st (view ps None, []))
 take_moves T id ps st some_share s h len at fits =
     ⊎_elim
     (λ (free : IsFree s h.fabric).
@@ -115,10 +115,10 @@ take_moves T id ps st some_share s h len at fits =
 -- so a seat that carries a kernel and has nothing out may try
 pub take_asks : (T key : Setup) (slots id : ℕ) (me : Sat) (st : Step (Option FabricValue)) → key ≡ T → slots ≡ 1 → me.0.taken ≡ None → me.1 ≡ [] →
     0 < length me.0.shares
-    → Allows (IsInTurn key) slots id me 0 (λ m. either (m == 0) 1 m) (Takes T st me)
+    → Allows (IsInTurn key) slots id me 0 (λ m. either (m == 0) 1 m) (TakesOut T st me)
 take_asks T key slots id me st key_is slots_is free none some_share =
-    subst (λ (m : Sat). Allows (IsInTurn key) slots id m 0 (λ m. either (m == 0) 1 m) (Takes T st m)) (λ i. (view me.0.shares (sym free i), sym none i))
-    (subst (λ (x : Setup × ℕ). Allows (IsInTurn x.0) x.1 id (view me.0.shares None, []) 0 (λ m. either (m == 0) 1 m) (Takes T st (view me.0.shares None, [])))
+    subst (λ (m : Sat). Allows (IsInTurn key) slots id m 0 (λ m. either (m == 0) 1 m) (TakesOut T st m)) (λ i. (view me.0.shares (sym free i), sym none i))
+    (subst (λ (x : Setup × ℕ). Allows (IsInTurn x.0) x.1 id (view me.0.shares None, []) 0 (λ m. either (m == 0) 1 m) (TakesOut T st (view me.0.shares None, [])))
     (λ i. (sym key_is i, sym slots_is i)) (take_moves T id me.0.shares st some_share))
 
 -- the fabric in a list of slots

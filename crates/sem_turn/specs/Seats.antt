@@ -13,9 +13,9 @@ out_with None = []
 out_with (Some f) = (0, None) ∷ []
 
 -- the entries of the first share
-abbrev pub entries_of : List Share → List Entry
-entries_of [] = []
-entries_of (p ∷ ps) = p.entries
+abbrev pub first_entries : List Share → List Entry
+first_entries [] = []
+first_entries (p ∷ ps) = p.entries
 
 -- whether the first share notes a place
 abbrev pub placed_of : List Share → Bool

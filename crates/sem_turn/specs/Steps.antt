@@ -16,8 +16,8 @@ Sat = Me (Option FabricValue) View
 
 -- To take: the word was 0, and the fabric is out with the seat, which notes it so; or the word was
 -- 1, and nothing changed.
-abbrev pub Takes : Setup → Step (Option FabricValue) → Sat → ℕ → Sat → Type 0
-Takes T s me found now =
+abbrev pub TakesOut : Setup → Step (Option FabricValue) → Sat → ℕ → Sat → Type 0
+TakesOut T s me found now =
     (found ≡ 0 → (f : FabricValue) × (now ≡ (view me.0.shares (Some f), (0, Some f) ∷ me.1)) × IsWhole T f
     × All (IsShareOf f) me.0.shares)
     × (found ≢ 0 → now ≡ me)

@@ -12,7 +12,7 @@ use Rattle.sem_msg.specs.declared.state.Ask.{Ask}
 use Rattle.sem_msg.specs.Rows.{VpeRow, no_vpe}
 use Rattle.sem_msg.specs.VpeRows.{row, with_row}
 use Rattle.sem_vpe.specs.VpeTable.{VpeTable, IsOurs, IsVpeRow, IsVpeTable}
-use Rattle.sem_vpe.specs.Stored.{plain}
+use Rattle.sem_vpe.specs.Stored.{kept_table}
 use Rattle.sem_key.proofs.Puts.{get_or-put_same, get_or-put_other, put-set, length-put}
 
 -- what is marked is in the list
@@ -46,19 +46,19 @@ table-put t v new valid ours is_row = record {
     ]
 
 -- a place of a VPE of this kernel, as it was found and as it is after
-module _ (places : List (Option VpeRow)) (v at : ℕ) (place : Option VpeRow) (kept new : VpeRow) (valid : IsVpeTable (plain places))
-    (ours : IsOurs (plain places) v) (at_v : at ≡ v) (found : place ≡ get_or places at place) (is : place ≡ Some kept) where
+module _ (places : List (Option VpeRow)) (v at : ℕ) (place : Option VpeRow) (kept new : VpeRow) (valid : IsVpeTable (kept_table places))
+    (ours : IsOurs (kept_table places) v) (at_v : at ≡ v) (found : place ≡ get_or places at place) (is : place ≡ Some kept) where
   within : at < length places
-  within = let marked = marked-within (plain places).ours v ours in omega (arith, length-map places (λ (p : Option VpeRow). is_some p))
+  within = let marked = marked-within (kept_table places).ours v ours in omega (arith, length-map places (λ (p : Option VpeRow). is_some p))
 
   here : get_or places at place ≡ Some kept
   here = sym found ∙ is
 
-  pub row-here : row (plain places).rows v ≡ kept
+  pub row-here : row (kept_table places).rows v ≡ kept
   row-here = rw (← at_v) (get_or-map (λ (p : Option VpeRow). unwrap_or p no_vpe) places at place no_vpe within
       ∙ ap (λ (p : Option VpeRow). unwrap_or p no_vpe) here)
 
-  written : plain (set places at (Some new)) ≡ record (plain places) { rows = put no_vpe (plain places).rows v new }
+  written : kept_table (set places at (Some new)) ≡ record (kept_table places) { rows = put no_vpe (kept_table places).rows v new }
   written =
       let marks : map (λ (p : Option VpeRow). is_some p) (set places at (Some new)) ≡ map (λ (p : Option VpeRow). is_some p) places =
       map-set_same (λ (p : Option VpeRow). is_some p) places at (Some new) place (ap (λ (p : Option VpeRow). is_some p) (sym here)) in
@@ -69,16 +69,16 @@ module _ (places : List (Option VpeRow)) (v at : ℕ) (place : Option VpeRow) (k
       rw (marks, rows, ← at_v, put-set no_vpe (map (λ (p : Option VpeRow). unwrap_or p no_vpe) places) at new long) refl
 
   -- the change is one of the row of that VPE
-  pub changed : (f : VpeRow → VpeRow) → new ≡ f kept → plain (set places at (Some new)) ≡ record (plain places) { rows = with_row v f (plain places).rows }
+  pub changed : (f : VpeRow → VpeRow) → new ≡ f kept → kept_table (set places at (Some new)) ≡ record (kept_table places) { rows = with_row v f (kept_table places).rows }
   changed f is_f = rw (row-here, ← is_f) written
 
   -- and that row is there
-  pub row-changed : row (plain (set places at (Some new))).rows v ≡ new
-  row-changed = ap (λ (t : VpeTable). row t.rows v) written ∙ get_or-put_same no_vpe (plain places).rows v new
+  pub row-changed : row (kept_table (set places at (Some new))).rows v ≡ new
+  row-changed = ap (λ (t : VpeTable). row t.rows v) written ∙ get_or-put_same no_vpe (kept_table places).rows v new
 
   -- what was a table still is
-  pub table-kept : IsVpeRow new → IsVpeTable (plain (set places at (Some new)))
-  table-kept is_row = rw written (table-put (plain places) v new valid ours is_row)
+  pub table-kept : IsVpeRow new → IsVpeTable (kept_table (set places at (Some new)))
+  table-kept is_row = rw written (table-put (kept_table places) v new valid ours is_row)
 
 -- an ask is appended where there is room for it
 pub appended-here : (r new : VpeRow) (a : Ask) → new ≡ record r { asks = if nat_lt (length r.asks) ASKS then r.asks ++ a ∷ [] else r.asks } →

@@ -24,7 +24,7 @@ use Rattle.sem_msg.specs.Setup.{Setup, IsRoot, IsVpeDecl}
 use Rattle.sem_msg.specs.VpeRows.{new_vpe, root_held, start_row}
 use Rattle.sem_vpe.specs.VpeTable.{IsVpeRow, IsVpeTable}
 use Rattle.sem_vpe.specs.Starting.{start_place, start_table, IsStartable}
-use Rattle.sem_vpe.specs.Stored.{plain}
+use Rattle.sem_vpe.specs.Stored.{kept_table}
 
 -- the first roots of a VPE were added
 pub record IsAdding (d : VpeDecl) (now : VpeRow) (done : ℕ) : Type 0 where
@@ -98,7 +98,7 @@ map-map f g [] = refl
 map-map f g (x ∷ xs) = ap (λ ys. g (f x) ∷ ys) (map-map f g xs)
 
 pub started-all : (T : Setup) (i v : ℕ) (places : List (Option VpeRow)) → places ≡ map (start_place T i) (range_with_len 0 v) → v ≡ VPES →
-    plain places ≡ start_table T i
+    kept_table places ≡ start_table T i
 unfolding start_table
 started-all T i v places so_far all = rw (
   so_far,
@@ -132,7 +132,7 @@ marked-within [] v some = absurd cc
 marked-within (p ∷ ps) zero some = omega arith
 marked-within (p ∷ ps) (suc v) some = let rest = marked-within ps v some in omega arith
 
-pub table_of : (places : List (Option VpeRow)) → length places ≡ VPES → All (λ p. IfSome p IsVpeRow) places → IsVpeTable (plain places)
+pub table_of : (places : List (Option VpeRow)) → length places ≡ VPES → All (λ p. IfSome p IsVpeRow) places → IsVpeTable (kept_table places)
 table_of places long rows = record {
   marks = length-map places (λ (p : Option VpeRow). is_some p) ∙ long;
   places = length-map places (λ (p : Option VpeRow). unwrap_or p no_vpe) ∙ long;

@@ -4,5 +4,5 @@ use Rattle.sem_msg.specs.Prelude.{VpeRow, no_vpe}
 use Rattle.sem_vpe.specs.VpeTable.{VpeTable}
 
 -- what the places keep: a row for a VPE of this kernel, and none for the others
-abbrev pub plain : List (Option VpeRow) → VpeTable
-plain places = record { ours = map (λ p. is_some p) places; rows = map (λ p. unwrap_or p no_vpe) places }
+abbrev pub kept_table : List (Option VpeRow) → VpeTable
+kept_table places = record { ours = map (λ p. is_some p) places; rows = map (λ p. unwrap_or p no_vpe) places }

@@ -15,11 +15,11 @@ use Rattle.sem_msg.specs.Message.{Fits, IsDelegable}
 use Rattle.sem_wire.specs.declared.fault.WireFault.{WireFault}
 use Rattle.sem_wire.specs.declared.fault.WireFault.TheVariants.{Tag, Field}
 use Rattle.sem_wire.specs.declared.rows.Rows.{Rows}
-use Rattle.sem_wire.specs.Records.{blank, rows_of}
+use Rattle.sem_wire.specs.Records.{blank, message_rows}
 use Rattle.sem_wire.specs.Grammar.{grammar, first_fault}
 use Rattle.sem_wire.specs.Reading.{◌>>=◌, allowed, unused, key_in, key_at, kind_key_at, place_at, no_index, no_object, no_job, object_in, sel_in}
 use Rattle.sem_wire.specs.Reading.{serv_target_in, offer_in, obtain_req_in, obtain_ok_in, obtain_no_in, delegate_req_in, delegate_no_in, ack_in, two_keys_in}
-use Rattle.sem_wire.specs.Reading.{of_two, revoke_req_in, revoke_done_in, message_in}
+use Rattle.sem_wire.specs.Reading.{of_two, revoke_req_in, revoke_done_in, message_read}
 use Rattle.sem_wire.proofs.SameRows.{same_rows}
 use Rattle.sem_wire.proofs.Words.{both, in_range, out_of_range, word_again}
 use Rattle.sem_wire.proofs.Steps.{fault_in, place_of}
@@ -29,7 +29,7 @@ use Rattle.sem_wire.proofs.Objects.{object_read, same_kind}
 
 pub record IsDecoded (r : Rows) (m : Message) : Type 0 where
   pub fits : Fits m
-  pub rows : rows_of m ≡ r
+  pub rows : message_rows m ≡ r
 
 -- a reader of the messages of that number
 abbrev Decodes : ℕ → (Rows → Result Message WireFault) → Type 0
@@ -78,7 +78,7 @@ sel_decoded r m e =
     let low : r.index < 2 ^ 8 = ltb-true _ _ index.0 in
     subst (IsDecoded s) rest.2 (record {
       fits = (word.0, (ltb-true _ _ vpe.0, omega (arith, low)));
-      rows = same_rows (rows_of made) s refl refl refl refl (sym gap.0) word.1 (sym second.0) (sym rest.0) (sym rest.1.kind) (sym rest.1.after_kind)
+      rows = same_rows (message_rows made) s refl refl refl refl (sym gap.0) word.1 (sym second.0) (sym rest.0) (sym rest.1.kind) (sym rest.1.after_kind)
           (sym rest.1.main) (sym rest.1.more) (sym rest.1.last) (sym rest.1.after_last);
     })
 
@@ -97,7 +97,7 @@ serv_target_decoded r m e =
     let service = word_again r.second second.0 in
     subst (IsDecoded s) rest.2 (record {
       fits = (word.0, (service.0, same_kind _ ServKind second.1));
-      rows = same_rows (rows_of made) s refl refl (sym none.0.vpe) (sym none.0.index) (sym none.0.after_index) word.1 service.1 (sym rest.0) (sym rest.1.kind)
+      rows = same_rows (message_rows made) s refl refl (sym none.0.vpe) (sym none.0.index) (sym none.0.after_index) word.1 service.1 (sym rest.0) (sym rest.1.kind)
           (sym rest.1.after_kind) (sym rest.1.main) (sym rest.1.more) (sym rest.1.last) (sym rest.1.after_last);
     })
 
@@ -123,7 +123,7 @@ offer_decoded r m e =
     let low : r.index < 2 ^ 8 = ltb-true _ _ index.0 in
     subst (IsDecoded s) rest.2 (record {
       fits = (word.0, ((service.0, same_kind _ ServKind second.1), omega (arith, low)));
-      rows = same_rows (rows_of made) s refl refl (sym vpe.0) refl (sym gap.0) word.1 service.1 (sym rest.0) (sym rest.1.kind) (sym rest.1.after_kind)
+      rows = same_rows (message_rows made) s refl refl (sym vpe.0) refl (sym gap.0) word.1 service.1 (sym rest.0) (sym rest.1.kind) (sym rest.1.after_kind)
           (sym rest.1.main) (sym rest.1.more) (sym rest.1.last) (sym rest.1.after_last);
     })
 
@@ -161,7 +161,7 @@ obtain_no_decoded r m e =
     let range = in_range 1 15 r.form code.0 in
     subst (IsDecoded s) rest.2 (record {
       fits = (word.0, (range.0, range.1));
-      rows = same_rows (rows_of made) s refl refl (sym none.0.vpe) (sym none.0.index) (sym none.0.after_index) word.1 (sym second.0) (sym rest.0)
+      rows = same_rows (message_rows made) s refl refl (sym none.0.vpe) (sym none.0.index) (sym none.0.after_index) word.1 (sym second.0) (sym rest.0)
           (sym rest.1.kind) (sym rest.1.after_kind) (sym rest.1.main) (sym rest.1.more) (sym rest.1.last) (sym rest.1.after_last);
     })
 
@@ -180,7 +180,7 @@ delegate_no_decoded r m e =
     let range = in_range 1 15 r.form code.0 in
     subst (IsDecoded s) rest.2 (record {
       fits = (word.0, (range.0, range.1));
-      rows = same_rows (rows_of made) s refl refl (sym none.0.vpe) (sym none.0.index) (sym none.0.after_index) word.1 (sym second.0) (sym rest.0)
+      rows = same_rows (message_rows made) s refl refl (sym none.0.vpe) (sym none.0.index) (sym none.0.after_index) word.1 (sym second.0) (sym rest.0)
           (sym rest.1.kind) (sym rest.1.after_kind) (sym rest.1.main) (sym rest.1.more) (sym rest.1.last) (sym rest.1.after_last);
     })
 
@@ -204,7 +204,7 @@ ack_decoded r m e =
     let word = word_again r.first first.0 in
     subst (IsDecoded s) rest.2 (record {
       fits = word.0;
-      rows = same_rows (rows_of made) s refl (flag r.form (leb-true _ _ answer.0)) (sym none.0.vpe) (sym none.0.index) (sym none.0.after_index) word.1
+      rows = same_rows (message_rows made) s refl (flag r.form (leb-true _ _ answer.0)) (sym none.0.vpe) (sym none.0.index) (sym none.0.after_index) word.1
           (sym second.0) (sym rest.0) (sym rest.1.kind) (sym rest.1.after_kind) (sym rest.1.main) (sym rest.1.more) (sym rest.1.last) (sym rest.1.after_last);
     })
 
@@ -280,7 +280,7 @@ revoke_req_decoded r m low e =
     let word = word_again r.first first.0 in
     subst (IsDecoded s) rest.1 (record {
       fits = (word.0, omega (arith, low));
-      rows = same_rows (rows_of made) s refl (sym form.0) (sym none.0.vpe) (sym none.0.index) (sym none.0.after_index) word.1 (sym second.0) refl
+      rows = same_rows (message_rows made) s refl (sym form.0) (sym none.0.vpe) (sym none.0.index) (sym none.0.after_index) word.1 (sym second.0) refl
           (sym rest.0.kind) (sym rest.0.after_kind) (sym rest.0.main) (sym rest.0.more) (sym rest.0.last) (sym rest.0.after_last);
     })
 
@@ -296,7 +296,7 @@ revoke_done_decoded r m low e =
     let rest = end_ok s made m second.1 in
     subst (IsDecoded s) rest.1 (record {
       fits = omega (arith, low);
-      rows = same_rows (rows_of made) s refl (sym form.0) (sym none.0.vpe) (sym none.0.index) (sym none.0.after_index) (sym first.0) (sym second.0) refl
+      rows = same_rows (message_rows made) s refl (sym form.0) (sym none.0.vpe) (sym none.0.index) (sym none.0.after_index) (sym first.0) (sym second.0) refl
           (sym rest.0.kind) (sym rest.0.after_kind) (sym rest.0.main) (sym rest.0.more) (sym rest.0.last) (sym rest.0.after_last);
     })
 
@@ -372,10 +372,10 @@ delegate_req_decoded r m e =
     })
 
 -- what is read of any rows fits, and has these rows
-pub message_decoded : (r : Rows) (m : Message) → r.job < 2 ^ 32 → message_in r ≡ Ok m → IsDecoded r m
+pub message_decoded : (r : Rows) (m : Message) → r.job < 2 ^ 32 → message_read r ≡ Ok m → IsDecoded r m
 message_decoded r m low e = by_tag r.tag r low e
   where
-    by_tag : (tag : ℕ) (r : Rows) → r.job < 2 ^ 32 → message_in (record r { tag = tag }) ≡ Ok m → IsDecoded (record r { tag = tag }) m
+    by_tag : (tag : ℕ) (r : Rows) → r.job < 2 ^ 32 → message_read (record r { tag = tag }) ≡ Ok m → IsDecoded (record r { tag = tag }) m
     by_tag zero r low e = absurd cc
     by_tag (suc zero) r low e = obtain_req_decoded r m e
     by_tag (suc (suc zero)) r low e = obtain_ok_decoded r m e
@@ -390,6 +390,6 @@ message_decoded r m low e = by_tag r.tag r low e
     by_tag (suc (suc (suc (suc (suc (suc (suc (suc (suc (suc (suc zero))))))))))) r low e = unlink_decoded r m e
     by_tag (suc (suc (suc (suc (suc (suc (suc (suc (suc (suc (suc (suc n)))))))))))) r low e =
         let s : Rows = record r { tag = suc (suc (suc (suc (suc (suc (suc (suc (suc (suc (suc (suc n))))))))))) } in
-        let fault : fault_in (message_in s) ≡ Some Tag = reads_to_the_fault s
+        let fault : fault_in (message_read s) ≡ Some Tag = reads_to_the_fault s
         ∙ ap (λ b. if b then first_fault (grammar s) else Some Tag) (out_of_range 1 11 s.tag (omega arith)) in
         absurd (no_fault (sym (ap fault_in e) ∙ fault))

@@ -16,11 +16,11 @@ use Rattle.sem_msg.specs.declared.message.Message.TheVariants.{ObtainReq, Obtain
 use Rattle.sem_msg.specs.declared.message.Message.TheVariants.{RevokeDone, Unlink}
 use Rattle.sem_msg.specs.Message.{Fits, IsDelegable}
 use Rattle.sem_wire.specs.declared.rows.Rows.{Rows}
-use Rattle.sem_wire.specs.Records.{blank, place_word, rows_of, with_object}
+use Rattle.sem_wire.specs.Records.{blank, place_word, message_rows, with_object}
 use Rattle.sem_wire.specs.Grammar.{kind_in}
 use Rattle.sem_wire.specs.Reading.{◌>>=◌, allowed, key_at, kind_key_at, place_at, no_index, no_object, no_job, mem_in, recv_in, send_in, serv_in, sess_in}
 use Rattle.sem_wire.specs.Reading.{object_in, sel_in, serv_target_in, offer_in, obtain_ok_in, obtain_no_in, delegate_req_in, delegate_no_in, ack_in}
-use Rattle.sem_wire.specs.Reading.{two_keys_in, revoke_req_in, revoke_done_in, message_in}
+use Rattle.sem_wire.specs.Reading.{two_keys_in, revoke_req_in, revoke_done_in, message_read}
 use Rattle.sem_wire.proofs.Words.{range_in, key_again, key_passes}
 
 -- ---- one row
@@ -68,22 +68,22 @@ object_again s (Sess service ident) v = rw (kind_key_as 32 service ServKind v.0 
 -- ---- messages
 
 sel_again : (p : PlaceName) (vpe sel : ℕ) → Fits (ObtainReq p (SelTarget vpe sel)) →
-    sel_in (rows_of (ObtainReq p (SelTarget vpe sel))) ≡ Ok (ObtainReq p (SelTarget vpe sel))
+    sel_in (message_rows (ObtainReq p (SelTarget vpe sel))) ≡ Ok (ObtainReq p (SelTarget vpe sel))
 unfolding sel_in no_job no_object
 sel_again p vpe sel v = rw (lt-ltb vpe VPES v.1.0, lt-ltb sel (2 ^ 8) (omega (arith, v.1.1)), place_reads 8 p v.0) refl
 
 serv_target_again : (p : PlaceName) (k : KeyName) → Fits (ObtainReq p (ServTarget k)) →
-    serv_target_in (rows_of (ObtainReq p (ServTarget k))) ≡ Ok (ObtainReq p (ServTarget k))
+    serv_target_in (message_rows (ObtainReq p (ServTarget k))) ≡ Ok (ObtainReq p (ServTarget k))
 unfolding serv_target_in no_index no_job no_object
 serv_target_again p k v = rw (place_reads 8 p v.0, kind_key_as 16 k ServKind v.1.0 v.1.1) refl
 
 offer_again : (p : PlaceName) (k : KeyName) (n : ℕ) → Fits (ObtainReq p (OfferTarget k n)) →
-    offer_in (rows_of (ObtainReq p (OfferTarget k n))) ≡ Ok (ObtainReq p (OfferTarget k n))
+    offer_in (message_rows (ObtainReq p (OfferTarget k n))) ≡ Ok (ObtainReq p (OfferTarget k n))
 unfolding offer_in no_job no_object
 offer_again p k n v = rw (lt-ltb n (2 ^ 8) (omega (arith, v.1.1)), place_reads 8 p v.0, kind_key_as 16 k ServKind v.1.0.0 v.1.0.1) refl
 
 obtain_ok_again : (parent key : KeyName) (o : Object) → Fits (ObtainOk parent key o) →
-    obtain_ok_in (rows_of (ObtainOk parent key o)) ≡ Ok (ObtainOk parent key o)
+    obtain_ok_in (message_rows (ObtainOk parent key o)) ≡ Ok (ObtainOk parent key o)
 unfolding obtain_ok_in no_index
 obtain_ok_again parent key o v = by_object o (object_again (record blank { tag = 2; first = packed parent; second = packed key }) o v.2) v.3
   where
@@ -97,7 +97,7 @@ obtain_ok_again parent key o v = by_object o (object_again (record blank { tag =
     by_object (Sess service ident) read kind = rw (key_reads 8 parent v.0, key_reads 16 key v.1, read, kind) refl
 
 delegate_req_again : (parent : KeyName) (o : Object) (vpe sel : ℕ) → Fits (DelegateReq parent o vpe sel) →
-    delegate_req_in (rows_of (DelegateReq parent o vpe sel)) ≡ Ok (DelegateReq parent o vpe sel)
+    delegate_req_in (message_rows (DelegateReq parent o vpe sel)) ≡ Ok (DelegateReq parent o vpe sel)
 unfolding delegate_req_in
 delegate_req_again parent o vpe sel v = by_object o (object_again (record blank { tag = 4; vpe = vpe; index = sel; first = packed parent }) o v.1) v.2
     (subst IsDelegable v.2 v.3)
@@ -114,7 +114,7 @@ delegate_req_again parent o vpe sel v = by_object o (object_again (record blank 
     by_object (Serv name) again kind may = absurd may
     by_object (Sess service ident) again kind may = absurd may
 
-pub message_again : (m : Message) → Fits m → message_in (rows_of m) ≡ Ok m
+pub message_again : (m : Message) → Fits m → message_read (message_rows m) ≡ Ok m
 unfolding obtain_no_in delegate_no_in ack_in two_keys_in revoke_req_in revoke_done_in no_index no_job no_object
 message_again (ObtainReq p (SelTarget vpe sel)) v = sel_again p vpe sel v
 message_again (ObtainReq p (ServTarget k)) v = serv_target_again p k v

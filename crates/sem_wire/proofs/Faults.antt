@@ -9,10 +9,10 @@ use Rattle.sem_key.specs.declared.object.Object.{Object}
 use Rattle.sem_key.specs.KeyName.{kind_number}
 use Rattle.sem_msg.specs.declared.message.Message.{Message}
 use Rattle.sem_msg.specs.declared.message.Message.TheVariants.{DelegatePrepared, Orphan, Unlink}
-use Rattle.sem_wire.specs.Grammar.{Row, row, gap, grammar, wire_fault, kind_in, is_key, is_owned, main_allowed, more_allowed, last_allowed}
+use Rattle.sem_wire.specs.Grammar.{Row, row_with, gap, grammar, wire_fault, kind_in, is_key, is_owned, main_allowed, more_allowed, last_allowed}
 use Rattle.sem_wire.specs.Reading.{◌>>=◌, allowed, unused, kind_key_at, kind_at, no_index, no_object, no_job, mem_in, recv_in, send_in, serv_in, sess_in}
 use Rattle.sem_wire.specs.Reading.{of_kind, object_in, sel_in, serv_target_in, offer_in, obtain_req_in, obtain_ok_in, obtain_no_in, delegate_req_in}
-use Rattle.sem_wire.specs.Reading.{delegate_no_in, ack_in, two_keys_in, of_two, revoke_req_in, revoke_done_in, message_in}
+use Rattle.sem_wire.specs.Reading.{delegate_no_in, ack_in, two_keys_in, of_two, revoke_req_in, revoke_done_in, message_read}
 use Rattle.std.proofs.lemmas.Bool.{ne_eqb, eqb-true}
 use Rattle.sem_wire.proofs.Words.{both, renumbered, in_range, range_in, out_of_range}
 use Rattle.sem_wire.proofs.Steps.{fault_in, Says, then_says, passed, failed, allowed_as, then_step, allowed_step, unused_step, unused_end, key_step}
@@ -21,14 +21,14 @@ use Rattle.sem_wire.proofs.Steps.{kind_key_step, place_step}
 -- ---- rows that stand together
 
 no_index_step : {B : Type 0} (r : Rows) (b2 b4 : Bool) (f : Unit {0} → Result B WireFault) (rows : List Row) → Says (f tt) rows →
-    Says (no_index r >>= f) (row 2 r.vpe false b2 ∷ row 4 r.index false b4 ∷ gap 6 r.after_index ∷ rows)
+    Says (no_index r >>= f) (row_with 2 r.vpe false b2 ∷ row_with 4 r.index false b4 ∷ gap 6 r.after_index ∷ rows)
 unfolding no_index
 no_index_step r b2 b4 f rows go =
     then_step (unused 2 r.vpe) _ f _
     (unused_step 2 r.vpe b2 _ _ (then_step (unused 4 r.index) _ f _ (unused_step 4 r.index b4 _ _ (unused_step 6 r.after_index true f rows go))))
 
 no_object_fault : (r : Rows) (b28 b32 b40 b48 : Bool) →
-    Says (no_object r) (row 28 r.kind false b28 ∷ gap 29 r.after_kind ∷ row 32 r.main false b32 ∷ row 40 r.more false b40 ∷ row 48 r.last false b48
+    Says (no_object r) (row_with 28 r.kind false b28 ∷ gap 29 r.after_kind ∷ row_with 32 r.main false b32 ∷ row_with 40 r.more false b40 ∷ row_with 48 r.last false b48
     ∷ gap 56 r.after_last ∷ [])
 unfolding no_object
 no_object_fault r b28 b32 b40 b48 =
@@ -37,8 +37,8 @@ no_object_fault r b28 b32 b40 b48 =
     (unused_step 32 r.main b32 _ _ (unused_step 40 r.more b40 _ _ (unused_step 48 r.last b48 _ _ (unused_end 56 r.after_last true)))))
 
 no_job_fault : (r : Rows) (b24 b28 b32 b40 b48 : Bool) →
-    Says (no_job r) (row 24 r.job false b24 ∷ row 28 r.kind false b28 ∷ gap 29 r.after_kind ∷ row 32 r.main false b32 ∷ row 40 r.more false b40
-    ∷ row 48 r.last false b48 ∷ gap 56 r.after_last ∷ [])
+    Says (no_job r) (row_with 24 r.job false b24 ∷ row_with 28 r.kind false b28 ∷ gap 29 r.after_kind ∷ row_with 32 r.main false b32 ∷ row_with 40 r.more false b40
+    ∷ row_with 48 r.last false b48 ∷ gap 56 r.after_last ∷ [])
 unfolding no_job
 no_job_fault r b24 b28 b32 b40 b48 = unused_step 24 r.job b24 _ _ (no_object_fault r b28 b32 b40 b48)
 
@@ -46,7 +46,7 @@ no_job_fault r b24 b28 b32 b40 b48 = unused_step 24 r.job b24 _ _ (no_object_fau
 
 -- the rows at 32, 40 and 48, of which the second and the third may not be used
 abbrev object_rows : Rows → Bool → Bool → List Row → List Row
-object_rows r more last rows = row 32 r.main true (main_allowed r) ∷ row 40 r.more more (more_allowed r) ∷ row 48 r.last last (last_allowed r) ∷ rows
+object_rows r more last rows = row_with 32 r.main true (main_allowed r) ∷ row_with 40 r.more more (more_allowed r) ∷ row_with 48 r.last last (last_allowed r) ∷ rows
 
 module _ {B : Type 0} (f : Object → Result B WireFault) (rows : List Row) (go : (o : Object) → Says (f o) rows) where
   mem_step : (r : Rows) → Says (mem_in (record r { kind = 1 }) >>= f) (object_rows (record r { kind = 1 }) true true rows)
@@ -118,8 +118,8 @@ SaysSo tag reader = (r : Rows) → Says (reader (record r { tag = tag })) (gramm
 -- the rows behind a last key or place
 abbrev rest_says : (s : Rows) (b24 b28 b32 b40 b48 : Bool) {B : Type 0} (x : B) → Type 0
 rest_says s b24 b28 b32 b40 b48 x =
-    Says (no_job s >>= λ rest. Ok x) (row 24 s.job false b24 ∷ row 28 s.kind false b28 ∷ gap 29 s.after_kind ∷ row 32 s.main false b32 ∷ row 40 s.more false b40
-    ∷ row 48 s.last false b48 ∷ gap 56 s.after_last ∷ [])
+    Says (no_job s >>= λ rest. Ok x) (row_with 24 s.job false b24 ∷ row_with 28 s.kind false b28 ∷ gap 29 s.after_kind ∷ row_with 32 s.main false b32 ∷ row_with 40 s.more false b40
+    ∷ row_with 48 s.last false b48 ∷ gap 56 s.after_last ∷ [])
 
 rest : (s : Rows) (b24 b28 b32 b40 b48 : Bool) {B : Type 0} (x : B) → rest_says s b24 b28 b32 b40 b48 x
 rest s b24 b28 b32 b40 b48 x = then_says (no_job s) (λ rest. x) _ (no_job_fault s b24 b28 b32 b40 b48)
@@ -178,9 +178,9 @@ ack_says r =
     allowed_step 1 r.form _ _ _ (λ _. no_index_step s _ _ _ _ (key_step 8 r.first _ _ (λ _. unused_step 16 r.second _ _ _ (rest s _ _ _ _ _ _))))
 
 two_says : (s : Rows) (b1 b2 b4 b24 b28 b32 b40 b48 : Bool) → Says (two_keys_in s)
-    (row 1 s.form false b1 ∷ row 2 s.vpe false b2 ∷ row 4 s.index false b4 ∷ gap 6 s.after_index ∷ row 8 s.first true (is_key s.first)
-    ∷ row 16 s.second true (is_key s.second) ∷ row 24 s.job false b24 ∷ row 28 s.kind false b28 ∷ gap 29 s.after_kind ∷ row 32 s.main false b32
-    ∷ row 40 s.more false b40 ∷ row 48 s.last false b48 ∷ gap 56 s.after_last ∷ [])
+    (row_with 1 s.form false b1 ∷ row_with 2 s.vpe false b2 ∷ row_with 4 s.index false b4 ∷ gap 6 s.after_index ∷ row_with 8 s.first true (is_key s.first)
+    ∷ row_with 16 s.second true (is_key s.second) ∷ row_with 24 s.job false b24 ∷ row_with 28 s.kind false b28 ∷ gap 29 s.after_kind ∷ row_with 32 s.main false b32
+    ∷ row_with 40 s.more false b40 ∷ row_with 48 s.last false b48 ∷ gap 56 s.after_last ∷ [])
 unfolding two_keys_in
 two_says s b1 b2 b4 b24 b28 b32 b40 b48 =
     unused_step 1 s.form b1 _ _ (no_index_step s b2 b4 _ _ (key_step 8 s.first _ _ (λ _. key_step 16 s.second _ _ (λ _. rest s b24 b28 b32 b40 b48 _))))
@@ -236,10 +236,10 @@ delegate_req_says r =
     wider kind e = let h = in_range 1 3 kind e in range_in 1 5 kind h.0 (omega (arith, h.1))
 
 -- what is read of any rows is refused for the first that is wrong
-pub reads_to_the_fault : (r : Rows) → fault_in (message_in r) ≡ wire_fault r
+pub reads_to_the_fault : (r : Rows) → fault_in (message_read r) ≡ wire_fault r
 reads_to_the_fault r = by_tag r.tag r
   where
-    by_tag : (tag : ℕ) (r : Rows) → fault_in (message_in (record r { tag = tag })) ≡ wire_fault (record r { tag = tag })
+    by_tag : (tag : ℕ) (r : Rows) → fault_in (message_read (record r { tag = tag })) ≡ wire_fault (record r { tag = tag })
     by_tag zero r = refl
     by_tag (suc zero) r = (obtain_req_says r).fault
     by_tag (suc (suc zero)) r = (obtain_ok_says r).fault

@@ -17,9 +17,9 @@ use Rattle.sem_msg.specs.declared.message.Message.{Message}
 use Rattle.sem_msg.specs.Message.{Fits}
 use Rattle.sem_wire.specs.declared.fault.WireFault.{WireFault}
 use Rattle.sem_wire.specs.declared.rows.Rows.{Rows}
-use Rattle.sem_wire.specs.Records.{blank, place_word, record_of, rows_in, rows_of, spelled, with_object}
+use Rattle.sem_wire.specs.Records.{blank, place_word, record_of, rows_in, message_rows, spelled, with_object}
 use Rattle.sem_wire.specs.Grammar.{wire_fault}
-use Rattle.sem_wire.specs.Reading.{message_in}
+use Rattle.sem_wire.specs.Reading.{message_read}
 use Rattle.sem_wire.specs.MessageOfBytes.{message_of, IsRecord}
 use Rattle.sem_wire.proofs.Steps.{fault_in}
 use Rattle.sem_wire.proofs.Faults.{reads_to_the_fault}
@@ -135,7 +135,7 @@ object_wide s (Sess service ident) v w = record {
 }
 
 -- the numbers of a message that fits have room in their rows
-rows_wide : (m : Message) → Fits m → AreWide (rows_of m)
+rows_wide : (m : Message) → Fits m → AreWide (message_rows m)
 rows_wide (ObtainReq p (SelTarget vpe sel)) v = lone _ refl refl refl refl refl refl (omega (arith, v.1.0)) (omega (arith, v.1.1)) (place_wide p v.0)
     (nothing 8) (nothing 4)
 rows_wide (ObtainReq p (ServTarget k)) v = lone _ refl refl refl refl refl refl (nothing 2) (nothing 2) (place_wide p v.0) (key_wide k v.1.0) (nothing 4)
@@ -157,8 +157,8 @@ rows_wide (RevokeDone job) v = lone _ refl refl refl refl refl refl (nothing 2) 
 rows_wide (Unlink parent key) v = lone _ refl refl refl refl refl refl (nothing 2) (nothing 2) (key_wide parent v.0) (key_wide key v.1) (nothing 4)
 
 -- the message is read off its own record
-pub record_reads : (m : Message) → Fits m → message_in (rows_in (record_of m)) ≡ Ok m
-record_reads m fits = ap message_in (rows_again (rows_of m) (rows_wide m fits)) ∙ message_again m fits
+pub record_reads : (m : Message) → Fits m → message_read (rows_in (record_of m)) ≡ Ok m
+record_reads m fits = ap message_read (rows_again (message_rows m) (rows_wide m fits)) ∙ message_again m fits
 
 pub message_of_record : (m : Message) → Fits m → message_of (record_of m) ≡ m
 unfolding message_of
@@ -172,20 +172,20 @@ some_fault e = absurd cc
 
 module _ (bytes : List ℕ) (long : length bytes ≡ 64) (small : AreBytes bytes) where
   -- what is read off the rows of the bytes is the message of which they are the record
-  pub read_exactly : (m : Message) → (message_in (rows_in bytes) ≡ Ok m) ↔ (Fits m × (record_of m ≡ bytes))
+  pub read_exactly : (m : Message) → (message_read (rows_in bytes) ≡ Ok m) ↔ (Fits m × (record_of m ≡ bytes))
   read_exactly m = (there, back)
     where
-      there : message_in (rows_in bytes) ≡ Ok m → Fits m × (record_of m ≡ bytes)
+      there : message_read (rows_in bytes) ≡ Ok m → Fits m × (record_of m ≡ bytes)
       there e =
           let d = message_decoded (rows_in bytes) m (big_from-lt 0 4 (drop 24 bytes) (bytes_drop 24 bytes small)) e in
           (d.fits, ap spelled d.rows ∙ spelled_again bytes long small)
 
-      back : Fits m × (record_of m ≡ bytes) → message_in (rows_in bytes) ≡ Ok m
-      back h = ap (λ b. message_in (rows_in b)) (sym h.1) ∙ record_reads m h.0
+      back : Fits m × (record_of m ≡ bytes) → message_read (rows_in bytes) ≡ Ok m
+      back h = ap (λ b. message_read (rows_in b)) (sym h.1) ∙ record_reads m h.0
 
 -- and it is refused exactly for the first row that is wrong
-pub refused_exactly : (r : Rows) (f : WireFault) → (message_in r ≡ Err f) ↔ (wire_fault r ≡ Some f)
-refused_exactly r f = (λ e. sym (reads_to_the_fault r) ∙ ap fault_in e, λ e. by_result (message_in r) (reads_to_the_fault r ∙ e))
+pub refused_exactly : (r : Rows) (f : WireFault) → (message_read r ≡ Err f) ↔ (wire_fault r ≡ Some f)
+refused_exactly r f = (λ e. sym (reads_to_the_fault r) ∙ ap fault_in e, λ e. by_result (message_read r) (reads_to_the_fault r ∙ e))
   where
     by_result : (result : Result Message WireFault) → fault_in result ≡ Some f → result ≡ Err f
     by_result (Ok m) e = absurd cc
@@ -194,9 +194,9 @@ refused_exactly r f = (λ e. sym (reads_to_the_fault r) ∙ ap fault_in e, λ e.
 -- the grammar finds nothing wrong exactly with records
 pub grammar_exact : (bytes : List ℕ) → length bytes ≡ 64 → AreBytes bytes →
     (wire_fault (rows_in bytes) ≡ None) ↔ ((m : Message) × Fits m × (record_of m ≡ bytes))
-grammar_exact bytes long small = (λ e. by_result (message_in (rows_in bytes)) refl (reads_to_the_fault (rows_in bytes) ∙ e), back)
+grammar_exact bytes long small = (λ e. by_result (message_read (rows_in bytes)) refl (reads_to_the_fault (rows_in bytes) ∙ e), back)
   where
-    by_result : (result : Result Message WireFault) → message_in (rows_in bytes) ≡ result → fault_in (message_in (rows_in bytes)) ≡ None →
+    by_result : (result : Result Message WireFault) → message_read (rows_in bytes) ≡ result → fault_in (message_read (rows_in bytes)) ≡ None →
         (m : Message) × Fits m × (record_of m ≡ bytes)
     by_result (Ok m) e none = let found = (read_exactly bytes long small m).0 e in (m, found.0, found.1)
     by_result (Err f) e none = absurd (some_fault (sym (ap fault_in e) ∙ none))

@@ -47,12 +47,12 @@ pub record Row : Type 0 where
   pub is_used : Bool
   pub is_allowed : Bool
 
-abbrev pub row : ℕ → ℕ → Bool → Bool → Row
-row at number used allowed = record { at = at; number = number; is_used = used; is_allowed = allowed }
+abbrev pub row_with : ℕ → ℕ → Bool → Bool → Row
+row_with at number used allowed = record { at = at; number = number; is_used = used; is_allowed = allowed }
 
 -- a row that no message uses
 abbrev pub gap : ℕ → ℕ → Row
-gap at number = row at number false true
+gap at number = row_with at number false true
 
 -- what the rows of an object may hold, by its kind
 abbrev pub main_allowed : Rows → Bool
@@ -90,32 +90,32 @@ kind_allowed r = if r.tag == 2 then r.kind == kind_in r.second
 
 abbrev pub grammar : Rows → List Row
 grammar r =
-    row 1 r.form (is_one_of (1 ∷ 3 ∷ 6 ∷ 7 ∷ []) r) (form_allowed r)
-    ∷ row 2 r.vpe (has_form (1 ∷ []) r || is_one_of (4 ∷ []) r) (nat_lt r.vpe VPES)
-    ∷ row 4 r.index (has_form (1 ∷ 3 ∷ []) r || is_one_of (4 ∷ []) r) (nat_lt r.index (2 ^ 8))
+    row_with 1 r.form (is_one_of (1 ∷ 3 ∷ 6 ∷ 7 ∷ []) r) (form_allowed r)
+    ∷ row_with 2 r.vpe (has_form (1 ∷ []) r || is_one_of (4 ∷ []) r) (nat_lt r.vpe VPES)
+    ∷ row_with 4 r.index (has_form (1 ∷ 3 ∷ []) r || is_one_of (4 ∷ []) r) (nat_lt r.index (2 ^ 8))
     ∷ gap 6 r.after_index
-    ∷ row 8 r.first (not (is_one_of (10 ∷ []) r)) (first_allowed r)
-    ∷ row 16 r.second (has_form (2 ∷ 3 ∷ []) r || is_one_of (2 ∷ 5 ∷ 8 ∷ 11 ∷ []) r) (second_allowed r)
-    ∷ row 24 r.job (is_one_of (9 ∷ 10 ∷ []) r) true
-    ∷ row 28 r.kind (is_one_of (2 ∷ 4 ∷ []) r) (kind_allowed r)
+    ∷ row_with 8 r.first (not (is_one_of (10 ∷ []) r)) (first_allowed r)
+    ∷ row_with 16 r.second (has_form (2 ∷ 3 ∷ []) r || is_one_of (2 ∷ 5 ∷ 8 ∷ 11 ∷ []) r) (second_allowed r)
+    ∷ row_with 24 r.job (is_one_of (9 ∷ 10 ∷ []) r) true
+    ∷ row_with 28 r.kind (is_one_of (2 ∷ 4 ∷ []) r) (kind_allowed r)
     ∷ gap 29 r.after_kind
-    ∷ row 32 r.main (is_one_of (2 ∷ 4 ∷ []) r) (main_allowed r)
-    ∷ row 40 r.more (has_kind (1 ∷ 3 ∷ 5 ∷ []) r) (more_allowed r)
-    ∷ row 48 r.last (has_kind (1 ∷ 3 ∷ []) r) (last_allowed r)
+    ∷ row_with 32 r.main (is_one_of (2 ∷ 4 ∷ []) r) (main_allowed r)
+    ∷ row_with 40 r.more (has_kind (1 ∷ 3 ∷ 5 ∷ []) r) (more_allowed r)
+    ∷ row_with 48 r.last (has_kind (1 ∷ 3 ∷ []) r) (last_allowed r)
     ∷ gap 56 r.after_last
     ∷ []
 
 -- a used row must hold an allowed number, and every other row must be 0
 abbrev pub row_fault : Row → Option WireFault
-row_fault row =
-    if row.is_used then (if row.is_allowed then None else Some (Field row.at))
-    else if row.number == 0 then None
-    else Some (Padding row.at)
+row_fault row_with =
+    if row_with.is_used then (if row_with.is_allowed then None else Some (Field row_with.at))
+    else if row_with.number == 0 then None
+    else Some (Padding row_with.at)
 
 -- the fault of the first wrong row
 unfoldable pub first_fault : List Row → Option WireFault
 first_fault [] = None
-first_fault (row ∷ rows) = elim (row_fault row) [ Some fault ↦ Some fault | None ↦ first_fault rows ]
+first_fault (row_with ∷ rows) = elim (row_fault row_with) [ Some fault ↦ Some fault | None ↦ first_fault rows ]
 
 -- what is wrong with a record with these numbers in its rows
 abbrev pub wire_fault : Rows → Option WireFault

@@ -4,11 +4,11 @@ use Rattle.sem_msg.specs.declared.message.Message.{Message}
 use Rattle.sem_msg.specs.declared.message.Message.TheVariants.{RevokeDone}
 use Rattle.sem_msg.specs.Message.{Fits}
 use Rattle.sem_wire.specs.Records.{record_of, rows_in}
-use Rattle.sem_wire.specs.Reading.{message_in}
+use Rattle.sem_wire.specs.Reading.{message_read}
 
 -- the message whose record the bytes are; any message if they are the record of none
 unfoldable pub message_of : List ℕ → Message
-message_of bytes = elim (message_in (rows_in bytes)) [ Ok m ↦ m | Err f ↦ RevokeDone 0 ]
+message_of bytes = elim (message_read (rows_in bytes)) [ Ok m ↦ m | Err f ↦ RevokeDone 0 ]
 
 -- the bytes are the record of a message that fits
 abbrev pub IsRecord : List ℕ → Type 0

@@ -270,8 +270,8 @@ revoke_done_in r = do
   Ok (RevokeDone r.job)
 
 -- the message, by the number in the first byte
-abbrev pub message_in : Rows → Result Message WireFault
-message_in r =
+abbrev pub message_read : Rows → Result Message WireFault
+message_read r =
     if r.tag == 1 then obtain_req_in r
     else if r.tag == 2 then obtain_ok_in r
     else if r.tag == 3 then obtain_no_in r

@@ -43,39 +43,39 @@ with_object (Serv name) r = record r { kind = 4; main = name }
 with_object (Sess service ident) r = record r { kind = 5; main = packed service; more = ident }
 
 -- the numbers of a message
-abbrev pub rows_of : Message → Rows
-rows_of (ObtainReq place (SelTarget vpe sel)) = record blank {
+abbrev pub message_rows : Message → Rows
+message_rows (ObtainReq place (SelTarget vpe sel)) = record blank {
   tag = 1;
   form = 1;
   vpe = vpe;
   index = sel;
   first = place_word place;
 }
-rows_of (ObtainReq place (ServTarget service)) = record blank {
+message_rows (ObtainReq place (ServTarget service)) = record blank {
   tag = 1;
   form = 2;
   first = place_word place;
   second = packed service;
 }
-rows_of (ObtainReq place (OfferTarget service index)) = record blank {
+message_rows (ObtainReq place (OfferTarget service index)) = record blank {
   tag = 1;
   form = 3;
   index = index;
   first = place_word place;
   second = packed service;
 }
-rows_of (ObtainOk parent key object) =
+message_rows (ObtainOk parent key object) =
     with_object object (record blank { tag = 2; first = packed parent; second = packed key })
-rows_of (ObtainNo place code) = record blank { tag = 3; form = code; first = place_word place }
-rows_of (DelegateReq parent object vpe sel) =
+message_rows (ObtainNo place code) = record blank { tag = 3; form = code; first = place_word place }
+message_rows (DelegateReq parent object vpe sel) =
     with_object object (record blank { tag = 4; vpe = vpe; index = sel; first = packed parent })
-rows_of (DelegatePrepared parent key) = record blank { tag = 5; first = packed parent; second = packed key }
-rows_of (DelegateNo parent code) = record blank { tag = 6; form = code; first = packed parent }
-rows_of (Ack key yes') = record blank { tag = 7; form = cond yes' 1 0; first = packed key }
-rows_of (Orphan parent key) = record blank { tag = 8; first = packed parent; second = packed key }
-rows_of (RevokeReq key job) = record blank { tag = 9; first = packed key; job = job }
-rows_of (RevokeDone job) = record blank { tag = 10; job = job }
-rows_of (Unlink parent key) = record blank { tag = 11; first = packed parent; second = packed key }
+message_rows (DelegatePrepared parent key) = record blank { tag = 5; first = packed parent; second = packed key }
+message_rows (DelegateNo parent code) = record blank { tag = 6; form = code; first = packed parent }
+message_rows (Ack key yes') = record blank { tag = 7; form = cond yes' 1 0; first = packed key }
+message_rows (Orphan parent key) = record blank { tag = 8; first = packed parent; second = packed key }
+message_rows (RevokeReq key job) = record blank { tag = 9; first = packed key; job = job }
+message_rows (RevokeDone job) = record blank { tag = 10; job = job }
+message_rows (Unlink parent key) = record blank { tag = 11; first = packed parent; second = packed key }
 
 -- the bytes of the rows, the most significant of each number first
 abbrev pub spelled : Rows → List ℕ
@@ -86,7 +86,7 @@ spelled r =
 
 -- the record of a message
 abbrev pub record_of : Message → List ℕ
-record_of m = spelled (rows_of m)
+record_of m = spelled (message_rows m)
 
 -- the numbers in the rows of 64 bytes
 abbrev pub rows_in : List ℕ → Rows

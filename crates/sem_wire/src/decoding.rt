@@ -4,7 +4,7 @@ ghost use Rattle.sem_wire.specs.declared.fault.WireFault.{WireFault as WireFault
 ghost use Rattle.sem_msg.specs.Message.{Fits};
 ghost use Rattle.sem_wire.specs.Records.{record_of, rows_in};
 ghost use Rattle.sem_wire.specs.Grammar.{wire_fault};
-ghost use Rattle.sem_wire.specs.Reading.{message_in};
+ghost use Rattle.sem_wire.specs.Reading.{message_read};
 
 use crate::fault::WireFault;
 use crate::read_messages::{
@@ -25,7 +25,7 @@ pub fn decode(bytes: &[u8; RECORD]) -> Result<Message, WireFault>
 
 // The message with these numbers in its rows.
 fn message(rows: &Rows) -> Result<Message, WireFault>
-    ensures { result ≡ message_in rows.now }
+    ensures { result ≡ message_read rows.now }
 {
     match rows.tag {
         1 => obtain_req(rows),

@@ -3,7 +3,7 @@ ghost use Rattle.sem_key.specs.KeyName.{packed};
 ghost use Rattle.sem_msg.specs.Message.{Fits};
 ghost use Rattle.sem_msg.specs.declared.message.Message.TheVariants.{ObtainReq};
 ghost use Rattle.sem_wire.specs.Records.{blank, place_word as place_word_spec, record_of};
-ghost use Rattle.sem_wire.specs.Records.{rows_of as rows_of_spec, with_object as with_object_spec};
+ghost use Rattle.sem_wire.specs.Records.{message_rows as rows_of_spec, with_object as with_object_spec};
 
 use crate::rows::{RECORD, Rows, spell};
 use sem_key::{Key, Kind, Object, Place, keyed, pack};

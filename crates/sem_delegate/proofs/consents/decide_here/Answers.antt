@@ -5,7 +5,7 @@ use Rattle.sem_msg.specs.Lookups.{denies}
 use Rattle.sem_msg.specs.ParkedStates.{state_of}
 use Rattle.sem_machine.specs.Asks.{call_refused, is_delegate_wait}
 use Rattle.sem_machine.specs.Sides.{Side}
-use Rattle.sem_machine.specs.Steps.{asking, plain}
+use Rattle.sem_machine.specs.Steps.{asking, unshown}
 use Rattle.sem_machine.specs.Stores.{installing}
 use Rattle.sem_delegate.proofs.Deciding.{refused-here, taken-here}
 use Rattle.sem_delegate.proofs.consents.decide_here.Goals as goal
@@ -19,7 +19,7 @@ returns-in-Some-clause-row c s =
     let waits : is_delegate_wait p (state_of c.args.park.now p.vpe) ≡ true = search rules in
     let consents : denies T c.args.vpe p.vpe ≡ false = search rules in
     let row : record { side = installing c.args.caps.now.caps c.args.vpes.now.rows c.end_waiting-in-Some.new.park s; outcome = c.asked-in-Some.result }
-    ≡ asking p.vpe Yes (plain (call_refused (code_number c.in-Some.code) p.vpe side)) = search rules in
+    ≡ asking p.vpe Yes (unshown (call_refused (code_number c.in-Some.code) p.vpe side)) = search rules in
     row ∙ sym (refused-here T c.args.kernel c.args.vpe p c.args.object c.args.sel side c.in-Some.code c.requires.here waits consents c.in-Some.ensures)
 
 -- no test holds

@@ -5,7 +5,7 @@ use Rattle.sem_msg.specs.declared.message.Message.TheVariants.{DelegateNo}
 use Rattle.sem_msg.specs.Codes.{code_number}
 use Rattle.sem_msg.specs.Lookups.{denies, owner_of}
 use Rattle.sem_machine.specs.Sides.{Side, send}
-use Rattle.sem_machine.specs.Steps.{asking, plain}
+use Rattle.sem_machine.specs.Steps.{asking, unshown}
 use Rattle.sem_machine.specs.Upcalls.{delegate_prepared}
 use Rattle.sem_delegate.specs.Delegating.{preparing}
 use Rattle.sem_delegate.proofs.Deciding.{refused-elsewhere, prepared-elsewhere}
@@ -19,7 +19,7 @@ returns-in-Some-clause-row c s =
     let side : Side = preparing c.args.vpes.now c.args.pendings.now c.args.outs.now s in
     let consents : denies T c.args.vpe p.vpe ≡ false = search rules in
     let row : record { side = preparing c.args.vpes.now c.args.pendings.now c.tell_owner-in-Some.new.outs s; outcome = c.asked-in-Some.result }
-    ≡ asking p.vpe Yes (plain (send (owner_of T p) (DelegateNo p (code_number c.in-Some.code)) side)) = search rules in
+    ≡ asking p.vpe Yes (unshown (send (owner_of T p) (DelegateNo p (code_number c.in-Some.code)) side)) = search rules in
     row ∙ sym (refused-elsewhere T c.args.kernel c.args.vpe p c.args.object c.args.sel side c.in-Some.code c.requires.other consents c.in-Some.ensures.code)
 
 -- no test holds

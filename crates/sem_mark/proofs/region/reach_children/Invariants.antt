@@ -2,7 +2,7 @@ use Rattle.std.proofs.Common.{◌≡◌, ◌++◌, ◌+◌, ◌≤◌, List, tak
 use Rattle.sem_key.specs.KeyName.{KeyName, IsValidKey}
 use Rattle.std.specs.List.{All}
 use Rattle.sem_key.specs.Lists.{in_turn}
-use Rattle.sem_mark.specs.Walks.{Walk, children_at, open_count, reach}
+use Rattle.sem_mark.specs.Walks.{Walk, children_at, unmarked_count, reach}
 use Rattle.sem_mark.proofs.region.reach_children.Given as goal
 
 -- the first children were reached
@@ -15,7 +15,7 @@ invariant-loop-at l =
       walk : now ≡ in_turn (reach l.job) (take l.at children) before;
       same : children_at l.caps.caps l.parent ≡ children;
       rest : l.caps ≡ record l.fn.caps { caps = l.caps.caps };
-      room : vec_len l.keys + open_count l.caps.caps ≤ vec_len l.fn.keys + open_count l.fn.caps.caps;
+      room : vec_len l.keys + unmarked_count l.caps.caps ≤ vec_len l.fn.keys + unmarked_count l.fn.caps.caps;
       links : l.links.items ≡ l.fn.links.items ++ take l.at children;
       valid : All IsValidKey l.fn.links.items → All IsValidKey l.links.items;
       link_capacity : vec_capacity l.links ≡ vec_capacity l.fn.links;

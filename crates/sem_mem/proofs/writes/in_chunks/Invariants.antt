@@ -1,6 +1,6 @@
 use Rattle.std.proofs.Common.{◌≡◌, ◌++◌, length}
 use Rattle.std.specs.List.{All}
-use Rattle.sem_mem.specs.Chunks.{together, HasRun, IsSized}
+use Rattle.sem_mem.specs.Chunks.{together, HasAnyRun, IsSized}
 use Rattle.sem_mem.proofs.writes.in_chunks.Given as goal
 
 -- the chunks and what is left are the runs
@@ -8,7 +8,7 @@ abbrev pub invariant-loop-runs : goal.invariant-loop-runs
 invariant-loop-runs l = record {
   together : together l.chunks.items ++ l.runs.items ≡ l.fn.runs.items;
   sized : All IsSized l.chunks.items;
-  some : HasRun l.runs;
+  some : HasAnyRun l.runs;
 }
 
 abbrev pub decreases-loop-runs : goal.decreases-loop-runs

@@ -5,7 +5,7 @@ use Rattle.std.proofs.lemmas.List.{map-id, take_rest}
 use Rattle.std.proofs.lemmas.Iterator.{items_from_drains}
 use Rattle.std.proofs.lemmas.Iterator.Adapters.{YieldsList-from_vec}
 use Rattle.sem_access.specs.declared.run.Run.{Run}
-use Rattle.sem_mem.specs.Chunks.{together, IsSized, beginning, beginnings_of}
+use Rattle.sem_mem.specs.Chunks.{together, IsSized, first_base, beginnings_of}
 use Rattle.sem_mem.proofs.Chunking.{chunk-put, chunks-put, each-put, begins-set, begins-put}
 use Rattle.sem_mem.proofs.writes.replace.Goals as goal
 
@@ -33,7 +33,7 @@ returns-clause-sized c =
 
 pub returns-then-len-le-CHUNK-clause-begin : goal.returns-then-len-le-CHUNK-clause-begin
 returns-then-len-le-CHUNK-clause-begin c =
-    let begin : c.beginning_of.result ≡ beginning c.args.runs.now.items = search rules in
+    let begin : c.beginning_of.result ≡ first_base c.args.runs.now.items = search rules in
     rw (c.swap.ensures.x_after, begin) (begins-set c.args.chunks.now.items c.args.beginnings.now.items c.args.from c.args.runs.now c.requires.begin)
 
 pub returns-clause-begin : goal.returns-clause-begin

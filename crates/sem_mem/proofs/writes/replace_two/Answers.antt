@@ -3,7 +3,7 @@ use Rattle.std.specs.Global.{Vec}
 use Rattle.std.specs.List.{slice_set}
 use Rattle.std.proofs.lemmas.List.{take-append-drop}
 use Rattle.sem_access.specs.declared.run.Run.{Run}
-use Rattle.sem_mem.specs.Chunks.{together, beginning}
+use Rattle.sem_mem.specs.Chunks.{together, first_base}
 use Rattle.sem_mem.proofs.Chunking.{two-put, begins-set}
 use Rattle.sem_mem.proofs.writes.replace_two.Goals as goal
 
@@ -20,8 +20,8 @@ returns-clause-ok c =
 
 pub returns-clause-begin : goal.returns-clause-begin
 returns-clause-begin c =
-    let one : c.beginning_of.result ≡ beginning c.swap.new.x.items = search rules in
-    let other : c.beginning_of-2.result ≡ beginning c.swap-2.new.x.items = search rules in
+    let one : c.beginning_of.result ≡ first_base c.swap.new.x.items = search rules in
+    let other : c.beginning_of-2.result ≡ first_base c.swap-2.new.x.items = search rules in
     let first = begins-set c.args.chunks.now.items c.args.beginnings.now.items c.args.from c.swap.new.x c.requires.begin in
     rw (one, other) (begins-set (slice_set c.args.chunks.now.items c.args.from c.swap.new.x)
-    (slice_set c.args.beginnings.now.items c.args.from (beginning c.swap.new.x.items)) (c.args.from + 1) c.swap-2.new.x first)
+    (slice_set c.args.beginnings.now.items c.args.from (first_base c.swap.new.x.items)) (c.args.from + 1) c.swap-2.new.x first)

@@ -4,7 +4,7 @@ use Rattle.std.specs.List.{insert, slice_set}
 use Rattle.std.proofs.lemmas.List.{take-append-drop}
 use Rattle.sem_access.specs.declared.run.Run.{Run}
 use Rattle.sem_mem.specs.declared.writes.TheConstants.{CUT}
-use Rattle.sem_mem.specs.Chunks.{together, beginning, beginnings_of}
+use Rattle.sem_mem.specs.Chunks.{together, first_base, beginnings_of}
 use Rattle.sem_mem.proofs.Chunking.{one-split, begins-split}
 use Rattle.sem_mem.proofs.writes.split.Goals as goal
 
@@ -24,14 +24,14 @@ returns-clause-ok c =
 pub returns-clause-begin : goal.returns-clause-begin
 returns-clause-begin c =
     let i = c.args.from in
-    let one : c.beginning_of-2.result ≡ beginning c.swap.new.x.items = search rules in
-    let other : c.beginning_of.result ≡ beginning c.in_ok-rest.rest.items = search rules in
+    let one : c.beginning_of-2.result ≡ first_base c.swap.new.x.items = search rules in
+    let other : c.beginning_of.result ≡ first_base c.in_ok-rest.rest.items = search rules in
     let placed : c.insert-2.new.self.items ≡ insert c.args.chunks.now.items (i + 1) c.in_ok-rest.rest = c.in_ok-insert-2.ensures.items
     ∙ ap (λ (ds : List (Vec Run)). insert ds (i + 1) c.in_ok-rest.rest) c.reserve.ensures.items in
-    let begun : c.insert.new.self.items ≡ insert c.args.beginnings.now.items (i + 1) (beginning c.in_ok-rest.rest.items) = c.in_ok-insert.ensures.items
+    let begun : c.insert.new.self.items ≡ insert c.args.beginnings.now.items (i + 1) (first_base c.in_ok-rest.rest.items) = c.in_ok-insert.ensures.items
     ∙ (ap (λ (bs : List ℕ). insert bs (i + 1) c.beginning_of.result) c.reserve-2.ensures.items
     ∙ ap (insert c.args.beginnings.now.items (i + 1)) other) in
     ap (λ (bs : List ℕ). slice_set bs i c.beginning_of-2.result) begun
-    ∙ (ap (slice_set (insert c.args.beginnings.now.items (i + 1) (beginning c.in_ok-rest.rest.items)) i) one
+    ∙ (ap (slice_set (insert c.args.beginnings.now.items (i + 1) (first_base c.in_ok-rest.rest.items)) i) one
     ∙ (begins-split c.args.chunks.now.items c.args.beginnings.now.items i c.swap.new.x c.in_ok-rest.rest c.requires.begin
     ∙ sym (ap (λ (ds : List (Vec Run)). beginnings_of (slice_set ds i c.swap.new.x)) placed)))

@@ -1,7 +1,7 @@
 use Rattle.std.proofs.Common.{sym, ap, ◌∙◌, rules}
 use Rattle.sem_msg.specs.declared.entry.Consent.TheVariants.{Yes, No}
 use Rattle.sem_msg.specs.declared.entry.Outcome.{Outcome}
-use Rattle.sem_machine.specs.Steps.{plain, asking}
+use Rattle.sem_machine.specs.Steps.{unshown, asking}
 use Rattle.sem_machine.specs.Stores.{with_caps, with_caps_vpes_parks_outs}
 use Rattle.sem_obtain.proofs.Granting.{decided-dropped, decided-denied, decided-consented, consented-awaited}
 use Rattle.sem_obtain.proofs.upcalls.obtain_upcall.Goals as goal
@@ -19,7 +19,7 @@ returns-in-No-clause-row c s =
     let side = with_caps_vpes_parks_outs c.args.caps.now.caps c.args.vpes.now.rows c.args.park.now c.args.outs.now.boxes s in
     ap (λ (o : Outcome). record { side = with_caps_vpes_parks_outs c.args.caps.now.caps c.refuse_ask.new.vpes.rows c.refuse_ask.new.park c.refuse_ask.new.outs.boxes s; outcome = o })
     (search rules)
-    ∙ ap (λ t. asking c.args.place.vpe No (plain t)) (c.refuse_ask.ensures.row c.args.target (with_caps c.args.caps.now.caps s))
+    ∙ ap (λ t. asking c.args.place.vpe No (unshown t)) (c.refuse_ask.ensures.row c.args.target (with_caps c.args.caps.now.caps s))
     ∙ sym (decided-denied c.args.setup.now c.args.kernel c.args.vpe c.args.place c.args.target side (sym c.answer.ensures ∙ search rules))
 
 -- the asker, if it is of this kernel, waits

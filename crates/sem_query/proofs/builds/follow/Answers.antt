@@ -3,12 +3,12 @@ use Rattle.std.proofs.lemmas.Result.{on_ok_weaker}
 use Rattle.sem_msg.specs.Setup.{Setup}
 use Rattle.sem_machine.specs.Machine.{World, after}
 use Rattle.sem_kernel.specs.Worlds.{WorldValue}
-use Rattle.sem_query.specs.MarkedKeys.{AreMarked}
+use Rattle.sem_query.specs.MarkedKeys.{AreAllMarked}
 use Rattle.sem_query.proofs.Following.{follows-marked, follows-lives}
 use Rattle.sem_query.proofs.builds.follow.Goals as goal
 
 pub token_of-token-requires : goal.token_of-token-requires
-token_of-token-requires c = subst (AreMarked c.args.setup.now c.args.world.now.world) (sym c.deref.ensures.value) c.requires.marked
+token_of-token-requires c = subst (AreAllMarked c.args.setup.now c.args.world.now.world) (sym c.deref.ensures.value) c.requires.marked
 
 pub returns-clause-marked : goal.returns-clause-marked
 returns-clause-marked c =

@@ -8,7 +8,7 @@ use Rattle.sem_kernel.specs.Worlds.{WorldValue}
 use Rattle.sem_machine.specs.Journals.{made}
 use Rattle.sem_query.specs.Building.{life_so_far}
 use Rattle.sem_query.proofs.Begin.{lives-are}
-use Rattle.sem_query.specs.MarkedKeys.{AreMarked}
+use Rattle.sem_query.specs.MarkedKeys.{AreAllMarked}
 use Rattle.sem_query.proofs.Built.{next-lives, next-entry}
 use Rattle.sem_query.proofs.Following.{none-marked}
 use Rattle.sem_query.proofs.StatesSince.{next-enabled, next-world}
@@ -30,14 +30,14 @@ follow-requires-clause-next c =
     c.index-entries-place.is c.loop-place.world c.loop-place.invariant.world
 
 pub follow-requires-clause-marked : goal.follow-requires-clause-marked
-follow-requires-clause-marked c = subst (λ (w : WorldValue). AreMarked c.args.setup.now w.world c.loop-place.marked.items)
+follow-requires-clause-marked c = subst (λ (w : WorldValue). AreAllMarked c.args.setup.now w.world c.loop-place.marked.items)
     (sym c.loop-place.invariant.world) c.loop-place.invariant.marked
 
 pub loop-place-init : goal.loop-place-init
 loop-place-init c = record {
   world = c.requires.start;
   lives = c.requires.index;
-  marked = subst (AreMarked c.args.setup.now (start c.args.setup.now)) (sym c.new-marked.ensures.items) (none-marked c.args.setup.now);
+  marked = subst (AreAllMarked c.args.setup.now (start c.args.setup.now)) (sym c.new-marked.ensures.items) (none-marked c.args.setup.now);
 }
 
 pub loop-place-preserved : goal.loop-place-preserved
@@ -52,7 +52,7 @@ loop-place-preserved c =
     c.in_ok-follow.ensures.world in
     record {
       world = next;
-      marked = subst (λ (w : WorldValue). AreMarked T w.world c.follow.new.marked.items) next c.in_ok-follow.ensures.marked;
+      marked = subst (λ (w : WorldValue). AreAllMarked T w.world c.follow.new.marked.items) next c.in_ok-follow.ensures.marked;
       lives = next-lives T c.requires.setup J c.requires.schedule i e within c.index-entries-place.is c.loop-place.world c.loop-place.invariant.world
           (key_set (made T J)) c.loop-place.index c.follow.new.index c.loop-place.invariant.lives c.in_ok-follow.ensures.index;
     }

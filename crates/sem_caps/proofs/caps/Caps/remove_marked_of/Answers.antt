@@ -4,7 +4,7 @@ use Rattle.sem_key.specs.Capability.{capability_of}
 use Rattle.sem_key.specs.CapList.{is_marked_by, not_marked_by, link_count}
 use Rattle.sem_caps.specs.CapStore.{Spot}
 use Rattle.sem_caps.specs.CapStore.{CapStore, held_key}
-use Rattle.sem_caps.specs.Stored.{plain, row_at, rows_of}
+use Rattle.sem_caps.specs.Stored.{capabilities_in, row_at, rows_of}
 use Rattle.sem_caps.proofs.Places.{keys-rows}
 use Rattle.sem_caps.proofs.Swept.{plain-filter, stored-swept}
 use Rattle.sem_caps.proofs.Links.{few-swept}
@@ -16,7 +16,7 @@ use Rattle.sem_caps.proofs.caps.Caps.remove_marked_of.Goals as goal
 pub invariant_of-self : goal.invariant_of-self
 invariant_of-self c =
     let rows = rows_of c.self.inside.slab c.self.inside.spots.items in
-    let room : c.unmarked_child_room-self-inside.result ≡ held_key (not_marked_by c.args.job (plain rows)) c.self.inside.child_room =
+    let room : c.unmarked_child_room-self-inside.result ≡ held_key (not_marked_by c.args.job (capabilities_in rows)) c.self.inside.child_room =
     c.unmarked_child_room-self-inside.ensures ∙ sym (ap (λ (s : CapStore). held_key (not_marked_by c.args.job s.caps) s.child_room) c.self.view_is) in (
       rw (c.take_out-self-inside.ensures.rows, room) (stored-swept c.args.job rows c.self.inside.child_room c.self.invariant.0),
       rw c.take_out-self-inside.ensures.rows (record {
@@ -28,7 +28,7 @@ invariant_of-self c =
         c.take_out-self-inside.ensures.rows,
         c.drop_marks.ensures,
       ) (tallied-swept c.args.job rows c.self.inside.marks.items c.self.invariant.3 (c.len.result - c.len-before.result) (
-          let count = removed-count c.args.job (plain rows) c.args.gone.now.items c.take_out-self-inside.new.gone.items c.take_out-self-inside.ensures.gone in
+          let count = removed-count c.args.job (capabilities_in rows) c.args.gone.now.items c.take_out-self-inside.new.gone.items c.take_out-self-inside.ensures.gone in
           omega (arith, count, c.len.ensures, c.len-before.ensures))),
     )
 
@@ -36,18 +36,18 @@ invariant_of-self c =
 pub drop_marks-requires-clause-most : goal.drop_marks-requires-clause-most
 drop_marks-requires-clause-most c =
     let rows = rows_of c.self.inside.slab c.self.inside.spots.items in
-    let count = removed-count c.args.job (plain rows) c.args.gone.now.items c.take_out-self-inside.new.gone.items c.take_out-self-inside.ensures.gone in
+    let count = removed-count c.args.job (capabilities_in rows) c.args.gone.now.items c.take_out-self-inside.new.gone.items c.take_out-self-inside.ensures.gone in
     let few = marked-few c.args.job rows c.self.inside.marks.items c.self.invariant.3 in
     omega (arith, count, few, c.len.ensures, c.len-before.ensures)
 
 pub returns-clause-caps : goal.returns-clause-caps
 returns-clause-caps c =
-    ap plain c.take_out-self-inside.ensures.rows
+    ap capabilities_in c.take_out-self-inside.ensures.rows
     ∙ (plain-filter c.args.job (rows_of c.self.inside.slab c.self.inside.spots.items) ∙ ap (λ (s : CapStore). not_marked_by c.args.job s.caps) c.self.view_is)
 
 pub returns-clause-child_room : goal.returns-clause-child_room
 returns-clause-child_room c =
-    let left = ap plain c.take_out-self-inside.ensures.rows ∙ (plain-filter c.args.job (rows_of c.self.inside.slab c.self.inside.spots.items)
+    let left = ap capabilities_in c.take_out-self-inside.ensures.rows ∙ (plain-filter c.args.job (rows_of c.self.inside.slab c.self.inside.spots.items)
     ∙ ap (λ (s : CapStore). not_marked_by c.args.job s.caps) c.self.view_is) in
     c.unmarked_child_room-self-inside.ensures ∙ sym (ap (λ cs. held_key cs c.args.self.now.child_room) left)
 

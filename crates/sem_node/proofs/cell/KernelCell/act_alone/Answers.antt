@@ -4,7 +4,7 @@ use Rattle.sem_msg.specs.Fabric.{IsOwnAct}
 use Rattle.sem_turn.specs.Passes.{PassValue}
 use Rattle.sem_node.specs.declared.cell.Progress.{Progress}
 use Rattle.sem_node.specs.Running.{CellValue}
-use Rattle.sem_node.specs.Telling.{Tells}
+use Rattle.sem_node.specs.Telling.{TellsProgress}
 use Rattle.sem_node.proofs.Stepping.{IsMade, own-input, step-made, made-on, made-kernel-on, tells-alone}
 use Rattle.sem_node.proofs.cell.KernelCell.act_alone.Goals as goal
 
@@ -58,5 +58,5 @@ returns-clause-told g c =
     let new : List Entry = c.enter-entered.new.pass.entries in
     let came : new ≡ old ++ e ∷ [] = c.enter-entered.ensures.entries
     ∙ (ap (λ (x : PassValue). x.entries ++ e ∷ []) c.reserve.ensures.same ∙ ap (λ (v : CellValue). v.pass.entries ++ e ∷ []) c.self.view_is) in
-    subst (λ (x : Progress). Tells c.args.act old new x) (sym c.progress_of.ensures)
+    subst (λ (x : Progress). TellsProgress c.args.act old new x) (sym c.progress_of.ensures)
     (tells-alone c.args.act old new e c.is_some-replied.result c.enter-entered.result.replies came made.act c.is_some-replied.ensures)

@@ -5,7 +5,7 @@ use Rattle.sem_msg.specs.Journal.{part}
 use Rattle.sem_turn.specs.Passes.{has_place, Follows}
 use Rattle.sem_turn.specs.Rule.{view, share}
 use Rattle.sem_turn.specs.Steps.{Sat}
-use Rattle.sem_turn.specs.Seats.{entries_of, placed_of, out_with}
+use Rattle.sem_turn.specs.Seats.{first_entries, placed_of, out_with}
 use Rattle.sem_turn.proofs.Moves.{some_and, give_asks, give_done}
 use Rattle.sem_turn.proofs.turn.Turn.give_back.Goals as goal
 
@@ -36,7 +36,7 @@ invariant_of-pass g c =
     let done = give_done _ _ _ _ c.pass.inside.seat.me _ o.0 c.args.fabric (step t.board.shared.table_id.slots 0 0 0 maybe.none) i.2 taken e.3 _ s.2 in (
       s.0 ∙ e.0 ∙ i.0,
       i.1,
-      subst (λ (m : Sat). m ≡ (view (share c.pass.inside.kernel (entries_of m.0.shares) (placed_of m.0.shares) ∷ []) m.0.taken, out_with m.0.taken))
+      subst (λ (m : Sat). m ≡ (view (share c.pass.inside.kernel (first_entries m.0.shares) (placed_of m.0.shares) ∷ []) m.0.taken, out_with m.0.taken))
           (sym done) refl,
     )
 
@@ -51,7 +51,7 @@ returns g c =
     let taken = ap (λ h. h.taken) v ∙ o.1 in
     let k = ap (λ h. h.kernel) v in
     let done = give_done _ _ _ _ c.pass.inside.seat.me _ o.0 c.args.fabric (step t.board.shared.table_id.slots 0 0 0 maybe.none) i.2 taken e.3 _ s.2 in
-    let entries = ap (λ (m : Sat). entries_of m.0.shares) done ∙ ap (λ n. part c.args.fabric.journal n) k in
+    let entries = ap (λ (m : Sat). first_entries m.0.shares) done ∙ ap (λ n. part c.args.fabric.journal n) k in
     let placed = ap (λ (m : Sat). placed_of m.0.shares) done ∙ ap (λ n. has_place c.args.fabric n) k in
     let free = ap (λ (m : Sat). m.0.taken) done in
     λ j. record { kernel = k j; entries = entries j; placed = placed j; taken = free j }
