@@ -1,12 +1,11 @@
 -- What the calls need from the stores.
-use Rattle.std.specs.Prelude.{◌≡◌, ◌<◌, ℕ, List, Option, Some, None, true, if◌then◌else◌}
-use Rattle.sem_machine.specs.Prelude.{Kind, KeyName, Capability, cap_of, Orphan, Parked, DelegateReady, Ready}
+use Rattle.std.specs.Prelude.{◌≡◌, ◌<◌, List, Option, Some, None, true, if◌then◌else◌}
+use Rattle.sem_machine.specs.Prelude.{KeyName, Capability, cap_of, Orphan, Parked, DelegateReady, Ready}
 use Rattle.sem_machine.specs.Prelude.{Pending, OutboxList, Setup, owner_of, Side, send, with_caps, with_vpes}
 use Rattle.sem_machine.specs.Prelude.{with_parks, with_outs}
 use Rattle.sem_key.specs.ObjectRanges.{object_kind, IsValidObject}
 use Rattle.sem_msg.specs.ParkedStates.{state_of}
-use Rattle.sem_msg.specs.Lookups.{pe_of}
-use Rattle.sem_msg.specs.VpeRows.{row, is_alive}
+use Rattle.sem_msg.specs.VpeRows.{is_alive}
 use Rattle.sem_caps.specs.CapStore.{CapStore, held_key}
 use Rattle.sem_vpe.specs.VpeTable.{VpeTable}
 use Rattle.sem_machine.specs.Asks.{is_delegate_wait}
@@ -46,11 +45,6 @@ IsOfKind c = IsValidObject c.object × (c.key.kind ≡ object_kind c.object)
 abbrev pub IsAwaited : VpeTable → List (Option Parked) → KeyName → Type 0
 IsAwaited vpes park parent = is_alive vpes.rows parent.vpe ≡ true →
     is_delegate_wait parent (state_of park parent.vpe) ≡ true
-
--- no capability has the number that the VPE draws next
-abbrev pub IsNextFree : Setup → CapStore → VpeTable → ℕ → Type 0
-IsNextFree T caps vpes v = (kind : Kind) →
-    cap_of caps.caps (record { pe = pe_of T v; vpe = v; kind = kind; number = (row vpes.rows v).next_number }) ≡ None
 
 -- there is room for one more child of the capability, if it is held
 abbrev pub HasRoomFor : CapStore → KeyName → Type 0

@@ -7,9 +7,9 @@ ghost use Rattle.sem_vpe.specs.VpeTable.{IsOurs};
 ghost use Rattle.sem_machine.specs.Sides.{Side, no_side};
 ghost use Rattle.sem_machine.specs.Steps.{asking, first_code};
 ghost use Rattle.sem_machine.specs.Calls.{destination_tests};
-ghost use Rattle.sem_machine.specs.Stores.{installing, with_vpes};
+ghost use Rattle.sem_machine.specs.Stores.{IsNextFree, installing, with_vpes};
 ghost use Rattle.sem_machine.specs.Upcalls.{ask_decided, delegate_here, parent_tests};
-ghost use Rattle.sem_delegate.specs.Delegating.{HasRoomFor, IsNextFree};
+ghost use Rattle.sem_delegate.specs.Delegating.{HasRoomFor};
 
 use crate::answers::end_waiting;
 use crate::keys::draw_key;
@@ -35,7 +35,7 @@ pub fn decide_here(
     requires here { kernel_of_spec setup.now parent.vpe ≡ kernel }
     requires declared { is_declared setup.now vpe ≡ true }
     requires ours { IsOurs vpes.old vpe }
-    requires free { IsNextFree setup.now caps.old vpes.old vpe }
+    requires free { IsNextFree setup.now caps.old.caps vpes.old.rows vpe }
     requires child_room { HasRoomFor caps.old parent }
     requires spare { 0 < caps.old.spare }
     ensures row { (s : Side) →
@@ -75,7 +75,7 @@ fn take_child(
     requires ours { IsOurs vpes.old vpe }
     requires tests { first_code (parent_tests (cap_of caps.old.caps parent)
         ++ destination_tests (with_vpes vpes.old.rows no_side) vpe sel) ≡ None }
-    requires free { IsNextFree setup.now caps.old vpes.old vpe }
+    requires free { IsNextFree setup.now caps.old.caps vpes.old.rows vpe }
     requires child_room { HasRoomFor caps.old parent }
     requires spare { 0 < caps.old.spare }
     ensures row { (s : Side) →

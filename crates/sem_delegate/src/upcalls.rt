@@ -5,8 +5,9 @@ ghost use Rattle.sem_msg.specs.Lookups.{owner_of as owner_of_spec};
 ghost use Rattle.sem_msg.specs.Outboxes.{HasBoxes};
 ghost use Rattle.sem_vpe.specs.VpeTable.{AreOurs};
 ghost use Rattle.sem_machine.specs.Sides.{Side};
+ghost use Rattle.sem_machine.specs.Stores.{IsNextFree};
 ghost use Rattle.sem_machine.specs.Upcalls.{ask_decided};
-ghost use Rattle.sem_delegate.specs.Delegating.{HasRoomFor, IsNextFree, consenting};
+ghost use Rattle.sem_delegate.specs.Delegating.{HasRoomFor, consenting};
 
 use crate::consents::decide_here;
 use crate::pendings::Pendings;
@@ -39,7 +40,7 @@ pub fn delegate_upcall(
     requires vpe { kernel_of_spec setup.now vpe ≡ kernel }
     requires declared { is_declared setup.now vpe ≡ true }
     requires owner { owner_of_spec setup.now parent < setup.now.kernels }
-    requires free { IsNextFree setup.now caps.old vpes.old vpe }
+    requires free { IsNextFree setup.now caps.old.caps vpes.old.rows vpe }
     requires child_room { HasRoomFor caps.old parent }
     requires boxes { HasBoxes setup.now outs.old }
     requires caps_spare { 0 < caps.old.spare }

@@ -1,7 +1,7 @@
 -- What a journal tells: which keys were made from which, which were revoked, and which should be
 -- left ("Derived notions" in docs/machine.md).
 use Rattle.std.specs.Prelude.{ℕ, zero, suc, ◌+◌, ◌==◌, Bool, false, not, List, [], ◌∷◌, ◌++◌, length, map, filter}
-use Rattle.std.specs.Prelude.{filter_map, flat_map, find, Contains, Option, if◌then◌else◌}
+use Rattle.std.specs.Prelude.{filter_map, flat_map, find, Contains, Option, Some, None, if◌then◌else◌}
 use Rattle.std.specs.List.{list_any}
 use Rattle.std.specs.Option.{option_map, option_map_or}
 use Rattle.sem_msg.specs.Prelude.{KeyName, key_eq, Setup}
@@ -52,7 +52,13 @@ line J k = line_in (length J) (grants J) k
 abbrev pub Descends : List Entry → KeyName → KeyName → Type 0
 Descends J a b = Contains (line J b) a
 
--- whether a VPE ends by an act: it is killed, or calls `exit`
+-- the VPE that ends by an act, if one does: it is killed, or calls `exit`
+abbrev pub ended_by : Act → Detail → Option ℕ
+ended_by (Kill w) detail = Some w
+ended_by (Calls w) (Called index Exit) = Some w
+ended_by act detail = None
+
+-- whether a VPE ends by an act
 abbrev pub ends : ℕ → Act → Detail → Bool
 ends v (Kill w) detail = w == v
 ends v (Calls w) (Called index Exit) = w == v

@@ -1,7 +1,10 @@
 -- A side with another content of one store. With these, a call that works on some of a kernel's
 -- stores is said to do a row of the machine.
-use Rattle.std.specs.Prelude.{ℕ, List, Option}
-use Rattle.sem_msg.specs.Prelude.{Capability, JobRow, Endpoint, VpeRow}
+use Rattle.std.specs.Prelude.{◌≡◌, ℕ, List, Option, None}
+use Rattle.sem_key.specs.CapList.{cap_of}
+use Rattle.sem_msg.specs.Prelude.{Kind, Capability, JobRow, Endpoint, VpeRow, Setup}
+use Rattle.sem_msg.specs.Lookups.{pe_of}
+use Rattle.sem_msg.specs.VpeRows.{row}
 use Rattle.sem_msg.specs.declared.message.Message.{Message}
 use Rattle.sem_msg.specs.declared.state.Parked.{Parked}
 use Rattle.sem_msg.specs.declared.state.Pending.{Pending}
@@ -44,3 +47,8 @@ with_vpes_parks_outs rows states boxes s = with_vpes rows (with_parks states (wi
 abbrev pub with_caps_vpes_parks_outs :
     List Capability → List VpeRow → List (Option Parked) → List (List Message) → Side → Side
 with_caps_vpes_parks_outs caps rows states boxes s = with_caps caps (with_vpes_parks_outs rows states boxes s)
+
+-- no capability has the number that the VPE draws next
+abbrev pub IsNextFree : Setup → List Capability → List VpeRow → ℕ → Type 0
+IsNextFree T caps rows v = (kind : Kind) →
+    cap_of caps (record { pe = pe_of T v; vpe = v; kind = kind; number = (row rows v).next_number }) ≡ None

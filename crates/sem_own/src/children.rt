@@ -6,8 +6,8 @@ ghost use Rattle.sem_vpe.specs.VpeTable.{IsOurs};
 ghost use Rattle.sem_machine.specs.Sides.{Side};
 ghost use Rattle.sem_machine.specs.Calls.{child_made, derive_row, gate_row};
 ghost use Rattle.sem_machine.specs.Calls.{narrowed as narrowed_spec};
-ghost use Rattle.sem_machine.specs.Stores.{owning};
-ghost use Rattle.sem_own.specs.Holding.{IsNextFree, HasRoomForChild};
+ghost use Rattle.sem_machine.specs.Stores.{IsNextFree, owning};
+ghost use Rattle.sem_own.specs.Holding.{HasRoomForChild};
 
 use crate::refusals::{derive_refusal, gate_refusal};
 use sem_caps::Caps;
@@ -35,7 +35,7 @@ pub fn derive_call(
 ) -> Outcome
     requires declared { is_declared setup.now vpe ≡ true }
     requires ours { IsOurs vpes.old vpe }
-    requires free { IsNextFree setup.now caps.old vpes.old vpe }
+    requires free { IsNextFree setup.now caps.old.caps vpes.old.rows vpe }
     requires child_room { HasRoomForChild caps.old (slot vpes.old.rows vpe src) }
     requires spare { 0 < caps.old.spare }
     ensures row { (s : Side) →
@@ -69,7 +69,7 @@ pub fn gate_call(
 ) -> Outcome
     requires declared { is_declared setup.now vpe ≡ true }
     requires ours { IsOurs vpes.old vpe }
-    requires free { IsNextFree setup.now caps.old vpes.old vpe }
+    requires free { IsNextFree setup.now caps.old.caps vpes.old.rows vpe }
     requires child_room { HasRoomForChild caps.old (slot vpes.old.rows vpe src) }
     requires spare { 0 < caps.old.spare }
     ensures row { (s : Side) →
@@ -120,7 +120,7 @@ fn make_child(
     requires declared { is_declared setup.now vpe ≡ true }
     requires ours { IsOurs vpes.old vpe }
     requires number { (row vpes.old.rows vpe).next_number < 4096 }
-    requires free { IsNextFree setup.now caps.old vpes.old vpe }
+    requires free { IsNextFree setup.now caps.old.caps vpes.old.rows vpe }
     requires child_room { caps.old.child_room ≡ Some parent }
     requires spare { 0 < caps.old.spare }
     ensures row { (s : Side) →

@@ -21,7 +21,7 @@ use Rattle.sem_machine.specs.Schedules.{IsSchedule, world_after}
 use Rattle.sem_safety.proofs.JobIds.{HasIds, ids, start-ids}
 use Rattle.sem_safety.proofs.SideLayers.{run-kept}
 use Rattle.sem_sound.proofs.Jobbing.{same-id}
-use Rattle.sem_revoke.specs.Scales.{requesting_message, requesting, stray_message, straying, names, one_if}
+use Rattle.sem_revoke.specs.Scales.{requesting_message, requesting, stray_message, straying, names, bit}
 use Rattle.sem_revoke.proofs.JobTokens.{HasWeight, world-some}
 use Rattle.sem_revoke.proofs.Linking.{holds, way-weighs}
 use Rattle.sem_revoke.proofs.Marking.{marks-spread, roots-marked}
@@ -47,7 +47,7 @@ stray-at_home owner k i n from to (RevokeReq key j) home some =
     let same : owner key ≡ from = ap owner (key_eq-true key k outer.0) ∙ (home ∙ sym (eqb-true from i inner.0)) in
     apart (owner key == to) (owner key == from) (eq-eqb (owner key) from same)
   where
-    apart : (a b : Bool) → b ≡ true → 1 ≤ one_if (not (a && not b))
+    apart : (a b : Bool) → b ≡ true → 1 ≤ bit (not (a && not b))
     apart true true is = omega arith
     apart false true is = omega arith
     apart true false is = absurd cc

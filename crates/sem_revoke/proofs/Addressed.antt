@@ -51,7 +51,7 @@ use Rattle.sem_machine.proofs.FirstCodes.{unless-keeps}
 use Rattle.sem_sound.proofs.Named.{declared-kernel, own-declared}
 use Rattle.sem_sound.proofs.Objects.{service-named}
 use Rattle.sem_sound.proofs.Calling.{own-among}
-use Rattle.sem_revoke.specs.Scales.{Scale, one_if, sum_from, of_messages, of_inbox}
+use Rattle.sem_revoke.specs.Scales.{Scale, bit, sum_from, of_messages, of_inbox}
 use Rattle.sem_revoke.proofs.Growing.{is_plain}
 use Rattle.sem_revoke.proofs.Obtained.{or-false}
 use Rattle.sem_revoke.proofs.Scaling.{side-send}
@@ -81,7 +81,7 @@ is_misaddressed T j (RevokeDone job) = false
 is_misaddressed T j (Unlink parent key) = false
 
 abbrev pub misaddressing : Setup → Scale
-misaddressing T = record { message = λ from to m. one_if (is_misaddressed T to m); job = λ i x. 0 }
+misaddressing T = record { message = λ from to m. bit (is_misaddressed T to m); job = λ i x. 0 }
 
 not-plain : (T : Setup) (j : ℕ) (m : Message) → is_plain m ≡ false → is_misaddressed T j m ≡ false
 not-plain T j (ObtainReq place target) none = absurd cc
@@ -130,7 +130,7 @@ module _ (T : Setup) (valid : IsSetup T) (i : ℕ) (few : i < T.kernels) (n : �
   Right t = of_inbox (misaddressing T) i t.inbox + sum_from (of_messages (misaddressing T) i) 0 t.outs ≤ n
 
   pub right-send : (t : Side) (j : ℕ) (m : Message) → is_misaddressed T j m ≡ false → Right t → Right (send j m t)
-  right-send t j m right is = let sum = side-send (misaddressing T) i t j m in let none : one_if (is_misaddressed T j m) ≡ 0 = ap one_if right in
+  right-send t j m right is = let sum = side-send (misaddressing T) i t j m in let none : bit (is_misaddressed T j m) ≡ 0 = ap bit right in
       omega (arith, sum, none, is)
 
   pub steady : IsSteady Right

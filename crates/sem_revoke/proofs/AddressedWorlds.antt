@@ -26,7 +26,7 @@ use Rattle.sem_safety.proofs.CarryingWorlds.{stepped}
 use Rattle.sem_safety.proofs.GoingOn.{entry-enabled, run-append}
 use Rattle.sem_sound.proofs.Changing.{counted-sound, taken-sound}
 use Rattle.sem_sound.proofs.Scheduling.{schedule-sound}
-use Rattle.sem_revoke.specs.Scales.{Scale, one_if, sum_from, of_messages, of_inbox, of_world}
+use Rattle.sem_revoke.specs.Scales.{Scale, bit, sum_from, of_messages, of_inbox, of_world}
 use Rattle.sem_revoke.proofs.Addressed.{is_misaddressed, misaddressing, Right, call-right, upcall-right, resume-right, handled-right, ended-right}
 use Rattle.sem_revoke.proofs.Linking.{way-weighs}
 use Rattle.sem_revoke.proofs.Moving.{Moves, moved-sum}
@@ -85,12 +85,12 @@ module _ (T : Setup) (valid : IsSetup T) where
         by : (o : Option (ℕ × Message)) → s.inbox ≡ o → Right T valid i low n (option_map_or (λ m. handled T i (with_inbox None s) m.0 m.1) o s)
         by None is = omega arith
         by (Some (from, m)) is = handled-right T valid i low n (with_inbox None s) from m (right m (let part = inbox-part S W i in
-            let weight : of_inbox S i s.inbox ≡ one_if (is_misaddressed T i m) = ap (of_inbox S i) is in omega (arith, part, weight, none))) (omega arith)
+            let weight : of_inbox S i s.inbox ≡ bit (is_misaddressed T i m) = ap (of_inbox S i) is in omega (arith, part, weight, none))) (omega arith)
           where
-            right : (q : Message) → one_if (is_misaddressed T i q) ≡ 0 → is_misaddressed T i q ≡ false
+            right : (q : Message) → bit (is_misaddressed T i q) ≡ 0 → is_misaddressed T i q ≡ false
             right q zero' = test (is_misaddressed T i q) zero'
               where
-                test : (b : Bool) → one_if b ≡ 0 → b ≡ false
+                test : (b : Bool) → bit b ≡ 0 → b ≡ false
                 test true one = absurd (omega (arith, one))
                 test false one = refl
 
@@ -120,7 +120,7 @@ module _ (T : Setup) (valid : IsSetup T) where
   way-right J runs a b m among = from (is_misaddressed T b m) (let weighs = way-weighs T valid J runs S a b m among in let none = all-right J runs in
       omega (arith, weighs, none))
     where
-      from : (t : Bool) → one_if t ≡ 0 → t ≡ false
+      from : (t : Bool) → bit t ≡ 0 → t ≡ false
       from true one = absurd (omega (arith, one))
       from false one = refl
 
@@ -129,10 +129,10 @@ module _ (T : Setup) (valid : IsSetup T) where
       is_misaddressed T i m ≡ false
   inbox-right J runs i from m full =
       let part = inbox-part S (world_after T J) i in
-      let weight : of_inbox S i (side (world_after T J) i).inbox ≡ one_if (is_misaddressed T i m) = ap (of_inbox S i) full in
+      let weight : of_inbox S i (side (world_after T J) i).inbox ≡ bit (is_misaddressed T i m) = ap (of_inbox S i) full in
       let none = all-right J runs in
       test (is_misaddressed T i m) (omega (arith, part, weight, none))
     where
-      test : (t : Bool) → one_if t ≡ 0 → t ≡ false
+      test : (t : Bool) → bit t ≡ 0 → t ≡ false
       test true one = absurd (omega (arith, one))
       test false one = refl

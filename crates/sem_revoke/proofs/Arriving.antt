@@ -44,7 +44,7 @@ use Rattle.sem_safety.proofs.LiveWorlds.{at_world, at_root, start-lives, world-s
 use Rattle.sem_safety.proofs.Worlds.{way-flushed, way-fetched}
 use Rattle.sem_sound.proofs.Scheduling.{schedule-sound}
 use Rattle.sem_revoke.specs.Views.{Under}
-use Rattle.sem_revoke.specs.Scales.{of_inbox, requesting, one_if, straying}
+use Rattle.sem_revoke.specs.Scales.{of_inbox, requesting, bit, straying}
 use Rattle.sem_revoke.proofs.Viewing.{on_its_way, one-true}
 use Rattle.sem_revoke.proofs.Worlds.{whole, held-parts}
 use Rattle.sem_revoke.proofs.Events.{Par, Made, IsReady, anything, Holds}
@@ -112,7 +112,7 @@ module _ (T : Setup) (valid : IsSetup T) where
     under : Under (owner_of T) (Par (grants J)) (Made T (grants J)) (whole T W) k from j
     under =
         let part = inbox-part (requesting k from j) W i in
-        let weight : of_inbox (requesting k from j) i s.inbox ≡ one_if (key_eq k k && ((from == from) && (j == j))) = ap (of_inbox (requesting k from j) i) full in
+        let weight : of_inbox (requesting k from j) i s.inbox ≡ bit (key_eq k k && ((from == from) && (j == j))) = ap (of_inbox (requesting k from j) i) full in
         let one = one-true (key_eq k k && ((from == from) && (j == j)))
         (and_from (key_eq k k) ((from == from) && (j == j)) (key_eq-same k) (and_from (from == from) (j == j) (eq-eqb from from refl) (eq-eqb j j refl))) in
         H.asking k from j (omega (arith, part, weight, one))
@@ -122,13 +122,13 @@ module _ (T : Setup) (valid : IsSetup T) where
     home =
         let part = inbox-part (straying (owner_of T)) W i in
         let none = H.placed in
-        let weight : of_inbox (straying (owner_of T)) i s.inbox ≡ one_if (not ((owner_of T k == i) && not (owner_of T k == from))) =
+        let weight : of_inbox (straying (owner_of T)) i s.inbox ≡ bit (not ((owner_of T k == i) && not (owner_of T k == from))) =
         ap (of_inbox (straying (owner_of T)) i) full in
         eqb-true (owner_of T k) i
         (and_parts (owner_of T k == i) (not (owner_of T k == from))
         (test ((owner_of T k == i) && not (owner_of T k == from)) (omega (arith, part, none, weight)))).0
       where
-        test : (t : Bool) → one_if (not t) ≡ 0 → t ≡ true
+        test : (t : Bool) → bit (not t) ≡ 0 → t ≡ true
         test true none = refl
         test false none = absurd (omega (arith, none))
 

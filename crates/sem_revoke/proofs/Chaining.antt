@@ -34,7 +34,7 @@ use Rattle.sem_safety.proofs.Lives.{at_side, at_cap, at_parked, lives-parked, li
 use Rattle.sem_sound.proofs.Rising.{filtered-rises}
 use Rattle.sem_safety.proofs.JobIds.{ids}
 use Rattle.sem_revoke.specs.Views.{Hand, free_hand, token, closing_job}
-use Rattle.sem_revoke.specs.Scales.{of_side, one_if, names, requesting, naming, counting, noticing, straying}
+use Rattle.sem_revoke.specs.Scales.{of_side, bit, names, requesting, naming, counting, noticing, straying}
 use Rattle.sem_revoke.proofs.Keeping.{HoldsOn, holds-same, fit-on, keep, Sweeps, keep_swept, fit-swept, not-gone}
 use Rattle.sem_revoke.proofs.Scaling.{side-removed}
 use Rattle.sem_revoke.proofs.Viewing.{on_its_way, Rises, rises_distinct, Scene, one-more, one-true, owner, view, IsAlive, IsGone, IsMarked, Row, hold-here}
@@ -44,7 +44,7 @@ use Rattle.sem_revoke.proofs.Closing.{changed-rises, asked-token, open-count, co
 
 -- the token of a job's `up` is in the hand
 abbrev pub above : ℕ → Option Up → Hand
-above i up = record { cares = λ a b k. ⊥; owed = λ a b. one_if (names i up a b); loose = λ a b. ⊥ }
+above i up = record { cares = λ a b k. ⊥; owed = λ a b. bit (names i up a b); loose = λ a b. ⊥ }
 
 -- What a job marks is removed.
 module _ (n : ℕ) (s : Side) (distinct : AreDistinct s.caps) where
@@ -403,7 +403,7 @@ module _ (C : Scene) where
       | inr away ↦ (job-away C s a m away ∙ (sym (job-away C u a m away) ∙ open_), λ (here, _). away here)
     ]
 
-    removed-asks : (k : KeyName) (a b : ℕ) → of_side (requesting k a b) i u + one_if (key_eq x.root k && names i x.up a b) ≡ of_side (requesting k a b) i s
+    removed-asks : (k : KeyName) (a b : ℕ) → of_side (requesting k a b) i u + bit (key_eq x.root k && names i x.up a b) ≡ of_side (requesting k a b) i s
     removed-asks k a b = side-removed (requesting k a b) i s x.id x K.row.ids.rise K.open_
 
     still-asked : (k : KeyName) (a b : ℕ) → IsAlive C u k → 1 ≤ (view C s).asked k a b → 1 ≤ (view C u).asked k a b
@@ -411,15 +411,15 @@ module _ (C : Scene) where
       | inl same ↦ elim (cases_Bool x.keep) [
         | inl keeps ↦
             let sum = removed-asks k a b in
-            let none : one_if (key_eq x.root k && names i x.up a b) ≡ 0 = ap (λ up. one_if (key_eq x.root k && names i up a b)) (K.kept keeps)
-            ∙ ap (λ t. one_if (t && false)) same in
+            let none : bit (key_eq x.root k && names i x.up a b) ≡ 0 = ap (λ up. bit (key_eq x.root k && names i up a b)) (K.kept keeps)
+            ∙ ap (λ t. bit (t && false)) same in
             omega (arith, sum, none, more)
         | inr leaves ↦ absurd (not-gone (owner C) C.parent C.one_parent C.made (view C s) k (subst (IsGone C s) (key_eq-true x.root k same) (K.gone leaves).0)
             alive)
       ]
       | inr differ ↦
           let sum = removed-asks k a b in
-          let none : one_if (key_eq x.root k && names i x.up a b) ≡ 0 = ap (λ t. one_if (t && names i x.up a b)) differ in
+          let none : bit (key_eq x.root k && names i x.up a b) ≡ 0 = ap (λ t. bit (t && names i x.up a b)) differ in
           omega (arith, sum, none, more)
     ]
 

@@ -30,7 +30,7 @@ use Rattle.sem_safety.proofs.LiveWorlds.{sum-le}
 use Rattle.sem_safety.proofs.JobIds.{HasIds, ids}
 use Rattle.sem_sound.proofs.Rising.{mapped-rises}
 use Rattle.sem_revoke.specs.Views.{Hand, free_hand, token}
-use Rattle.sem_revoke.specs.Scales.{Scale, sum_from, of_messages, of_inbox, of_side, of_world, one_if, names, requesting, naming, counting, noticing, straying}
+use Rattle.sem_revoke.specs.Scales.{Scale, sum_from, of_messages, of_inbox, of_side, of_world, bit, names, requesting, naming, counting, noticing, straying}
 use Rattle.sem_revoke.specs.Scales.{requesting_message, token_message}
 use Rattle.sem_revoke.proofs.Keeping.{HoldsOn, holds-same, cases_Option, not-gone}
 use Rattle.sem_revoke.proofs.Scaling.{side-changed, side-removed}
@@ -79,7 +79,7 @@ module _ (S U : Scale) (messages : (i j : ℕ) (m : Message) → S.message i j m
       omega (arith, one, two)
 
 -- what is asked for is a token
-one-and : (t u : Bool) → one_if (t && u) ≤ one_if u
+one-and : (t u : Bool) → bit (t && u) ≤ bit u
 one-and true u = omega arith
 one-and false u = omega arith
 
@@ -97,7 +97,7 @@ asking-token k a b from to (RevokeDone j) = omega arith
 asking-token k a b from to (Unlink parent key) = omega arith
 
 -- counts
-lowered-count : (t : Bool) (n : ℕ) → 1 ≤ n → (if t then n else 0) ≡ (if t then n - 1 else 0) + one_if t
+lowered-count : (t : Bool) (n : ℕ) → 1 ≤ n → (if t then n else 0) ≡ (if t then n - 1 else 0) + bit t
 lowered-count true n some = omega (arith, some)
 lowered-count false n some = refl
 
@@ -202,7 +202,7 @@ module _ (C : Scene) where
       let tokens = side-changed (naming a b) i s j lower x R.ids.rise open_ in
       let counts = side-changed (counting a b) i s j lower x R.ids.rise open_ in
       let less = lowered-count ((i == a) && (x.id == b)) x.count some in
-      let id : one_if ((i == a) && (x.id == b)) ≡ one_if ((i == a) && (j == b)) = ap (λ n. one_if ((i == a) && (n == b))) (job-id C s j x open_) in
+      let id : bit ((i == a) && (x.id == b)) ≡ bit ((i == a) && (j == b)) = ap (λ n. bit ((i == a) && (n == b))) (job-id C s j x open_) in
       let is = R.revokes.counted a b in
       omega (arith, tokens, counts, less, id, is)) (
         λ k a b. let same = side-changed (requesting k a b) i s j lower x R.ids.rise open_ in let most = R.revokes.single.0 k a b in

@@ -29,7 +29,7 @@ use Rattle.sem_safety.proofs.Lives.{at_side, lives}
 use Rattle.sem_safety.proofs.JobIds.{ids}
 use Rattle.sem_revoke.proofs.Closing.{changed-rises}
 use Rattle.sem_revoke.specs.Views.{Hand, IsAlone, IsCaused, free_hand, children}
-use Rattle.sem_revoke.specs.Scales.{one_if, names, requesting, naming, counting, noticing, straying}
+use Rattle.sem_revoke.specs.Scales.{bit, names, requesting, naming, counting, noticing, straying}
 use Rattle.sem_revoke.proofs.Keeping.{Begins, keep_begun, fit-begun, cases_Option}
 use Rattle.sem_revoke.proofs.Scaling.{side-opened, pairs-head, pairs-tail}
 use Rattle.sem_revoke.proofs.Viewing.{on_its_way, Scene, one-true, one-false, owner, view, IsUnder, Row, hold-here, job-here, job-away}
@@ -208,7 +208,7 @@ module _ (C : Scene) (h : Hand) (root : KeyName) (up : Option Up) (waiters : Lis
       (tight : (a b : ℕ) → h.loose a b → ⊥)
       (cares : (k : KeyName) (a b : ℕ) → h.cares a b k → (key_eq root k && names i up a b) ≡ true)
       (cared : (k : KeyName) (a b : ℕ) → (key_eq root k && names i up a b) ≡ true → h.cares a b k)
-      (owed : (a b : ℕ) → one_if (names i up a b) ≡ h.owed a b)
+      (owed : (a b : ℕ) → bit (names i up a b) ≡ h.owed a b)
       (above : (a b : ℕ) → names i up a b ≡ true → IsUnder C s root a b) where
     root-in : has_key ks root ≡ true
     root-in = in-region root (at_root c held unmarked)

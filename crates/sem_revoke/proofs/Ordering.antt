@@ -20,7 +20,7 @@ use Rattle.sem_safety.proofs.HeldOnce.{weigh-at}
 use Rattle.sem_safety.proofs.Lives.{at_message, at_messages, at_inbox, at_side}
 use Rattle.sem_safety.proofs.LiveWorlds.{at_world}
 use Rattle.sem_safety.proofs.GrownLines.{child-grown}
-use Rattle.sem_revoke.specs.Scales.{Scale, sum_from, of_messages, of_inbox, of_side, of_world, one_if, requesting, requesting_message}
+use Rattle.sem_revoke.specs.Scales.{Scale, sum_from, of_messages, of_inbox, of_side, of_world, bit, requesting, requesting_message}
 use Rattle.sem_revoke.proofs.Viewing.{on_its_way}
 use Rattle.sem_revoke.proofs.Events.{Par, Made, IsReady, Losing, Holds}
 use Rattle.sem_revoke.proofs.Turning.{Sends}
@@ -87,7 +87,7 @@ module _ (k : KeyName) where
       no-request (RevokeReq key j) zero' = elim (cases_Bool (key_eq key k)) [
         | inr other ↦ other
         | inl same ↦
-            let one : one_if (key_eq key k && ((from == from) && (j == j))) ≡ 1 =
+            let one : bit (key_eq key k && ((from == from) && (j == j))) ≡ 1 =
             cond-true (key_eq key k && ((from == from) && (j == j))) 1 0
             (and_from (key_eq key k) ((from == from) && (j == j)) same (and_from (from == from) (j == j) (eq-eqb from from refl) (eq-eqb j j refl))) in
             let none' = zero' j in

@@ -45,7 +45,7 @@ use Rattle.sem_machine.specs.Ends.{ask_ended, call_ended, keys_of, revoked_if_le
 use Rattle.sem_machine.specs.Machine.{local_step, next_call}
 use Rattle.sem_machine.proofs.Folds.{in_turn-keeps, option-keeps}
 use Rattle.sem_safety.proofs.Skeleton.{call_row-by, decided-by, handled-by}
-use Rattle.sem_revoke.specs.Scales.{Scale, one_if, sum_from, of_messages, of_inbox}
+use Rattle.sem_revoke.specs.Scales.{Scale, bit, sum_from, of_messages, of_inbox}
 use Rattle.sem_revoke.proofs.Growing.{is_plain}
 use Rattle.sem_revoke.proofs.Moving.{Moves}
 use Rattle.sem_revoke.proofs.Scaling.{side-send}
@@ -57,7 +57,7 @@ use Rattle.sem_msg.specs.Rows.{VpeRow}
 
 -- an ObtainOk of that key below that parent
 abbrev pub giving_message : KeyName → KeyName → Message → ℕ
-giving_message p k (ObtainOk parent key object) = one_if (key_eq parent p && key_eq key k)
+giving_message p k (ObtainOk parent key object) = bit (key_eq parent p && key_eq key k)
 giving_message p k (ObtainReq place target) = 0
 giving_message p k (ObtainNo place code) = 0
 giving_message p k (DelegateReq parent object vpe sel) = 0

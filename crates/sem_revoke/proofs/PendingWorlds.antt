@@ -22,23 +22,23 @@ use Rattle.sem_safety.proofs.AskWeights.{here, waits}
 use Rattle.sem_safety.proofs.AskWorlds
 use Rattle.sem_revoke.specs.Exchanges.{Exchange, waiter, of_ask, of_message, of_row, of_rows, exchanging, tokens}
 use Rattle.sem_revoke.specs.Exchanges.Exchange.{Obtaining, Delegating}
-use Rattle.sem_revoke.specs.Scales.{sum_from, of_messages, of_inbox, of_side, one_if}
+use Rattle.sem_revoke.specs.Scales.{sum_from, of_messages, of_inbox, of_side, bit}
 use Rattle.sem_revoke.proofs.ReadyCalls.{single, here-one}
 
 -- An exchange has no more tokens than its VPE has about.
 
-pair-le : (s t : Bool) → one_if (s && t) ≤ (if s then 1 else 0)
+pair-le : (s t : Bool) → bit (s && t) ≤ (if s then 1 else 0)
 pair-le true true = omega arith
 pair-le true false = omega arith
 pair-le false t = omega arith
 
-key-le : (a b : KeyName) → one_if (key_eq a b) ≤ here b.vpe a.vpe
+key-le : (a b : KeyName) → bit (key_eq a b) ≤ here b.vpe a.vpe
 key-le a b = elim (cases_Bool (key_eq a b)) [
   | inl same ↦
       let one : here b.vpe a.vpe ≡ 1 = ap (λ (k : KeyName). here b.vpe k.vpe) (key_eq-true a b same) ∙ here-one b.vpe in
-      let is : one_if (key_eq a b) ≡ 1 = cond-true (key_eq a b) 1 0 same in
+      let is : bit (key_eq a b) ≡ 1 = cond-true (key_eq a b) 1 0 same in
       omega (arith, one, is)
-  | inr differ ↦ let none : one_if (key_eq a b) ≡ 0 = cond-false (key_eq a b) 1 0 differ in omega (arith, none)
+  | inr differ ↦ let none : bit (key_eq a b) ≡ 0 = cond-false (key_eq a b) 1 0 differ in omega (arith, none)
 ]
 
 ask-le : (x : Exchange) (a : Ask) → of_ask x a ≤ AskWeights.of_ask (waiter x) a

@@ -37,7 +37,7 @@ use Rattle.sem_machine.proofs.Weighing.{weigh-map}
 use Rattle.sem_safety.proofs.Lives.{at_parked, lives-parked, lives-unparked, lives-inbox}
 use Rattle.sem_safety.proofs.JobIds.{HasIds, ids}
 use Rattle.sem_revoke.specs.Views.{Hand, IsCaused, free_hand, token, request}
-use Rattle.sem_revoke.specs.Scales.{Scale, of_side, of_inbox, one_if, names, requesting, naming, counting, noticing, straying, requesting_message, token_message}
+use Rattle.sem_revoke.specs.Scales.{Scale, of_side, of_inbox, bit, names, requesting, naming, counting, noticing, straying, requesting_message, token_message}
 use Rattle.sem_revoke.proofs.Keeping.{holds-same, same-mark, cases_Option, not-gone}
 use Rattle.sem_revoke.proofs.Scaling.{side-changed, side-inbox}
 use Rattle.sem_revoke.proofs.Viewing.{on_its_way, Scene, one-more, one-true, one-false, owner, view, IsAlive, IsGone, IsMarked, IsUnder, Row, hold-here}
@@ -89,8 +89,8 @@ module _ (C : Scene) where
     )
 
     asked-same : (k : KeyName) (a b : ℕ) → of_side (requesting k a b) i t ≡ of_side (requesting k a b) i s
-    asked-same k a b = let sum = weigh-map (λ (x : JobRow). one_if (key_eq x.root k && names i x.up a b)) g
-        (λ x. ap (λ q. one_if (key_eq q k && names i (g x).up a b)) (same x).1 ∙ ap (λ u. one_if (key_eq x.root k && names i u a b)) (ups x)) s.jobs in
+    asked-same k a b = let sum = weigh-map (λ (x : JobRow). bit (key_eq x.root k && names i x.up a b)) g
+        (λ x. ap (λ q. bit (key_eq q k && names i (g x).up a b)) (same x).1 ∙ ap (λ u. bit (key_eq x.root k && names i u a b)) (ups x)) s.jobs in
         omega (arith, sum)
 
     pub row-mapped : Row C h t
@@ -102,7 +102,7 @@ module _ (C : Scene) where
         (λ k a b more. let sum = asked-same k a b in inl (omega (arith, sum, more)))
         (λ a n loose. loose)
         (λ a b.
-        let tokens = weigh-map (λ (x : JobRow). one_if (names i x.up a b)) g (λ x. ap (λ u. one_if (names i u a b)) (ups x)) s.jobs in
+        let tokens = weigh-map (λ (x : JobRow). bit (names i x.up a b)) g (λ x. ap (λ u. bit (names i u a b)) (ups x)) s.jobs in
         let count = weigh-map (λ (x : JobRow). if (i == a) && (x.id == b) then x.count
         else 0) g (λ x. ap (λ n. if (i == a) && (n == b) then (g x).count else 0) (same x).0
         ∙ ap (λ c. if (i == a) && (x.id == b) then c else 0) (counts x)) s.jobs in
@@ -238,7 +238,7 @@ module _ (C : Scene) where
             let tokens = side-changed (naming a b) i s m f x R.ids.rise open_ in
             let count = side-changed (counting a b) i s m f x R.ids.rise open_ in
             let before = R.revokes.counted a b in
-            let none : one_if (names i x.up a b) ≡ 0 = one-false (names i x.up a b) (alone a b) in
+            let none : bit (names i x.up a b) ≡ 0 = one-false (names i x.up a b) (alone a b) in
             omega (arith, tokens, count, before, none))
             (λ q a b. once q a b, λ q a b care. absurd care)
             (λ q more. let sum = side-changed (noticing q) i s m f x R.ids.rise open_ in inl (omega (arith, sum, more)))
@@ -262,8 +262,8 @@ module _ (C : Scene) where
                 let none = R.revokes.single.1 k a b (mark.0, mark.1, refl) in
                 omega (arith, asked, none))
 
-            asks : (q : KeyName) (a b : ℕ) → of_side (requesting q a b) i t + one_if (key_eq x.root q && names i x.up a b)
-                ≡ of_side (requesting q a b) i s + one_if (key_eq x.root q && ((from == a) && (j == b)))
+            asks : (q : KeyName) (a b : ℕ) → of_side (requesting q a b) i t + bit (key_eq x.root q && names i x.up a b)
+                ≡ of_side (requesting q a b) i s + bit (key_eq x.root q && ((from == a) && (j == b)))
             asks q a b = side-changed (requesting q a b) i s m f x R.ids.rise open_
 
             once : (q : KeyName) (a b : ℕ) → (view C t).asked q a b ≤ 1
@@ -306,8 +306,8 @@ module _ (C : Scene) where
                 old : (1 ≤ (view C s).asked q a b) ⊎ ((a ≡ from) × (b ≡ j) × (q ≡ k)) → key_eq x.root q ≡ false → 1 ≤ (view C t).asked q a b
                 old (inl more) differ =
                     let sum = asks q a b in
-                    let none : one_if (key_eq x.root q && names i x.up a b) ≡ 0 = ap (λ t. one_if (t && names i x.up a b)) differ in
-                    let none' : one_if (key_eq x.root q && ((from == a) && (j == b))) ≡ 0 = ap (λ t. one_if (t && ((from == a) && (j == b)))) differ in
+                    let none : bit (key_eq x.root q && names i x.up a b) ≡ 0 = ap (λ t. bit (t && names i x.up a b)) differ in
+                    let none' : bit (key_eq x.root q && ((from == a) && (j == b))) ≡ 0 = ap (λ t. bit (t && ((from == a) && (j == b)))) differ in
                     omega (arith, sum, none, none', more)
                 old (inr (at, job', same)) differ = absurd (true≢false (sym (key_eq-from x.root q (root ∙ sym same)) ∙ differ))
 

@@ -21,14 +21,14 @@ use Rattle.sem_key.proofs.KeyTests.{key_eq-same, key_eq-true, key_eq-from}
 use Rattle.sem_safety.proofs.Lives.{lives-send}
 use Rattle.sem_safety.proofs.JobIds.{HasIds, ids}
 use Rattle.sem_revoke.specs.Views.{free_hand, children, Caught}
-use Rattle.sem_revoke.specs.Scales.{of_side, one_if, names, requesting, naming, counting, noticing, straying}
+use Rattle.sem_revoke.specs.Scales.{of_side, bit, names, requesting, naming, counting, noticing, straying}
 use Rattle.sem_revoke.proofs.Keeping.{holds-same, same-mark}
 use Rattle.sem_revoke.proofs.Scaling.{side-send, side-changed}
 use Rattle.sem_revoke.proofs.Viewing.{on_its_way, Scene, one-true, one-false, owner, view, IsAlive, IsMarked, IsUnder, Row, hold-here, job-here, under-lost}
 use Rattle.sem_revoke.proofs.Viewing.{job-weighs, job-id, changed-job, changed-roots, roots-joined, no-roots, sent-more, step, rehand}
 
 -- a count that grows
-pub count-one : (t : Bool) (n : ℕ) → (if t then n + 1 else 0) ≡ (if t then n else 0) + one_if t
+pub count-one : (t : Bool) (n : ℕ) → (if t then n + 1 else 0) ≡ (if t then n else 0) + bit t
 count-one true n = refl
 count-one false n = refl
 
@@ -62,11 +62,11 @@ module _ (C : Scene) where
 
   -- the count of a job that was raised
   pub raised-count : (s : Side) (j a b : ℕ) (x : JobRow) → HasIds s → job s j ≡ Some x →
-      of_side (counting a b) i (count_raised j s) ≡ of_side (counting a b) i s + one_if ((i == a) && (j == b))
+      of_side (counting a b) i (count_raised j s) ≡ of_side (counting a b) i s + bit ((i == a) && (j == b))
   raised-count s j a b x is open_ =
       let sum = side-changed (counting a b) i s j raise x is.rise open_ in
       let more = count-one ((i == a) && (x.id == b)) x.count in
-      let id : one_if ((i == a) && (x.id == b)) ≡ one_if ((i == a) && (j == b)) = ap (λ n. one_if ((i == a) && (n == b))) (job-id C s j x open_) in
+      let id : bit ((i == a) && (x.id == b)) ≡ bit ((i == a) && (j == b)) = ap (λ n. bit ((i == a) && (n == b))) (job-id C s j x open_) in
       omega (arith, sum, more, id)
 
   -- the job of an id, by the test of kernel and id
@@ -85,13 +85,13 @@ module _ (C : Scene) where
     abbrev requested : Side
     requested = count_raised j asked_for
 
-    requested-asks : (q : KeyName) (a b : ℕ) → of_side (requesting q a b) i requested ≡ of_side (requesting q a b) i s + one_if (key_eq k q && ((i == a) && (j == b)))
+    requested-asks : (q : KeyName) (a b : ℕ) → of_side (requesting q a b) i requested ≡ of_side (requesting q a b) i s + bit (key_eq k q && ((i == a) && (j == b)))
     requested-asks q a b =
         let sent = side-send (requesting q a b) i s (owner C k) (RevokeReq k j) in
         let raised = side-changed (requesting q a b) i asked_for j raise x R.ids.rise open_ in
         omega (arith, sent, raised)
 
-    requested-tokens : (a b : ℕ) → of_side (naming a b) i requested ≡ of_side (naming a b) i s + one_if ((i == a) && (j == b))
+    requested-tokens : (a b : ℕ) → of_side (naming a b) i requested ≡ of_side (naming a b) i s + bit ((i == a) && (j == b))
     requested-tokens a b =
         let sent = side-send (naming a b) i s (owner C k) (RevokeReq k j) in
         let raised = side-changed (naming a b) i asked_for j raise x R.ids.rise open_ in
@@ -104,7 +104,7 @@ module _ (C : Scene) where
         let there : ((owner C k == owner C k) && not (owner C k == i)) ≡ true =
         and_from (owner C k == owner C k) (not (owner C k == i)) (eq-eqb (owner C k) (owner C k) refl)
         (not_from_false (owner C k == i) (ne_eqb (owner C k) i away)) in
-        let none : one_if (not ((owner C k == owner C k) && not (owner C k == i))) ≡ 0 = ap (λ t. one_if (not t)) there in
+        let none : bit (not ((owner C k == owner C k) && not (owner C k == i))) ≡ 0 = ap (λ t. bit (not t)) there in
         omega (arith, sent, raised, none)
 
     pub row-requested : Row C (children i j ks) requested
@@ -156,7 +156,7 @@ module _ (C : Scene) where
         unasked q a b (at, job', has) =
             let sum = requested-asks q a b in
             let none = R.revokes.single.1 q a b (at, job', or_right (key_eq q k) (has_key ks q) has) in
-            let zero' : one_if (key_eq k q && ((i == a) && (j == b))) ≡ 0 = ap (λ t. one_if (t && ((i == a) && (j == b)))) (other-first k ks q first has) in
+            let zero' : bit (key_eq k q && ((i == a) && (j == b))) ≡ 0 = ap (λ t. bit (t && ((i == a) && (j == b)))) (other-first k ks q first has) in
             omega (arith, sum, none, zero')
 
         caught : (q : KeyName) (a b : ℕ) → (1 ≤ (view C s).asked q a b) ⊎ ((a ≡ i) × (b ≡ j) × (has_key (k ∷ ks) q ≡ true)) →
@@ -189,14 +189,14 @@ module _ (C : Scene) where
     waited-open : job waited j ≡ Some y
     waited-open = changed-other s m wait j (λ x. (refl, refl)) apart ∙ open_
 
-    adopting-asks : (q : KeyName) (a b : ℕ) → of_side (requesting q a b) i adopting + one_if (key_eq x.root q && names i x.up a b)
-        ≡ of_side (requesting q a b) i s + one_if (key_eq x.root q && ((i == a) && (j == b)))
+    adopting-asks : (q : KeyName) (a b : ℕ) → of_side (requesting q a b) i adopting + bit (key_eq x.root q && names i x.up a b)
+        ≡ of_side (requesting q a b) i s + bit (key_eq x.root q && ((i == a) && (j == b)))
     adopting-asks q a b =
         let first = side-changed (requesting q a b) i s m wait x R.ids.rise other in
         let raised = side-changed (requesting q a b) i waited j raise y waited-ids.rise waited-open in
         omega (arith, first, raised)
 
-    adopting-tokens : (a b : ℕ) → of_side (naming a b) i adopting + one_if (names i x.up a b) ≡ of_side (naming a b) i s + one_if ((i == a) && (j == b))
+    adopting-tokens : (a b : ℕ) → of_side (naming a b) i adopting + bit (names i x.up a b) ≡ of_side (naming a b) i s + bit ((i == a) && (j == b))
     adopting-tokens a b =
         let first = side-changed (naming a b) i s m wait x R.ids.rise other in
         let raised = side-changed (naming a b) i waited j raise y waited-ids.rise waited-open in
@@ -226,7 +226,7 @@ module _ (C : Scene) where
         let more = raised-count waited j a b y waited-ids waited-open in
         let first' = side-changed (counting a b) i s m wait x R.ids.rise other in
         let is = R.revokes.counted a b in
-        let none : one_if (names i x.up a b) ≡ 0 = one-false (names i x.up a b) (alone a b) in
+        let none : bit (names i x.up a b) ≡ 0 = one-false (names i x.up a b) (alone a b) in
         omega (arith, sum, more, first', is, none))
         (once, unasked)
         (λ q more. let first = side-changed (noticing q) i s m wait x R.ids.rise other in
@@ -268,7 +268,7 @@ module _ (C : Scene) where
         unasked q a b (at, job', has) =
             let sum = adopting-asks q a b in
             let none = R.revokes.single.1 q a b (at, job', or_right (key_eq q k) (has_key ks q) has) in
-            let zero' : one_if (key_eq x.root q && ((i == a) && (j == b))) ≡ 0 = ap (λ t. one_if (t && ((i == a) && (j == b)))) (ap (λ z. key_eq z q) root
+            let zero' : bit (key_eq x.root q && ((i == a) && (j == b))) ≡ 0 = ap (λ t. bit (t && ((i == a) && (j == b)))) (ap (λ z. key_eq z q) root
             ∙ other-first k ks q first has) in
             omega (arith, sum, none, zero')
 
@@ -300,8 +300,8 @@ module _ (C : Scene) where
                 Caught (owner C) C.parent C.made (children i j ks) (view C adopting) a b q
             old (inl more) differ =
                 let sum = adopting-asks q a b in
-                let none : one_if (key_eq x.root q && names i x.up a b) ≡ 0 = ap (λ t. one_if (t && names i x.up a b)) differ in
-                let none' : one_if (key_eq x.root q && ((i == a) && (j == b))) ≡ 0 = ap (λ t. one_if (t && ((i == a) && (j == b)))) differ in
+                let none : bit (key_eq x.root q && names i x.up a b) ≡ 0 = ap (λ t. bit (t && names i x.up a b)) differ in
+                let none' : bit (key_eq x.root q && ((i == a) && (j == b))) ≡ 0 = ap (λ t. bit (t && ((i == a) && (j == b)))) differ in
                 inr (inl (omega (arith, sum, none, none', more)))
             old (inr (at, job', has)) differ = elim (or_cases (key_eq q k) (has_key ks q) has) [
               | inl same ↦ absurd (true≢false (sym (key_eq-from x.root q (root ∙ sym (key_eq-true q k same))) ∙ differ))

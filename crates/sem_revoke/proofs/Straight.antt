@@ -17,7 +17,7 @@ use Rattle.sem_safety.proofs.CarryingWorlds.{stepped}
 use Rattle.sem_safety.proofs.Drawers.{side-after}
 use Rattle.sem_safety.proofs.GoingOn.{entry-enabled, run-append, run-prefix}
 use Rattle.sem_sound.proofs.Scheduling.{schedule-sound}
-use Rattle.sem_revoke.specs.Scales.{Scale, one_if, of_messages, of_inbox, of_side, of_world}
+use Rattle.sem_revoke.specs.Scales.{Scale, bit, of_messages, of_inbox, of_side, of_world}
 use Rattle.sem_revoke.proofs.Closing.{from-none}
 use Rattle.sem_revoke.proofs.Moving.{moved-sum}
 use Rattle.sem_revoke.proofs.Ordering.{link-part}
@@ -30,11 +30,11 @@ module _ (T : Setup) where
   crooked from to = not ((nat_lt from T.kernels && nat_lt to T.kernels) && not (to == from))
 
   abbrev straying : Scale
-  straying = record { message = λ from to m. one_if (crooked from to); job = λ i x. 0 }
+  straying = record { message = λ from to m. bit (crooked from to); job = λ i x. 0 }
 
-  straight : (a b : ℕ) → a < T.kernels → b < T.kernels → (b ≡ a → ⊥) → one_if (crooked a b) ≡ 0
+  straight : (a b : ℕ) → a < T.kernels → b < T.kernels → (b ≡ a → ⊥) → bit (crooked a b) ≡ 0
   straight a b low high apart =
-      ap (λ t. one_if (not t))
+      ap (λ t. bit (not t))
       (and_from (nat_lt a T.kernels && nat_lt b T.kernels) (not (b == a)) (and_from (nat_lt a T.kernels) (nat_lt b T.kernels) (lt-ltb a T.kernels low)
       (lt-ltb b T.kernels high)) (ap not (ne_eqb b a apart)))
 
@@ -42,13 +42,13 @@ module _ (T : Setup) where
   sound-none : (i : ℕ) → i < T.kernels → (s : Side) → IsSound T i s → of_side straying i s ≡ 0
   sound-none i low s sound =
       let jobs = weigh-none (λ (x : JobRow). 0) s.jobs (λ x among. refl) in
-      let outs = from-none (of_messages straying i) [] 0 s.outs (λ j. weigh-none (λ (m : Message). one_if (crooked i (0 + j))) (get_or s.outs j [])
+      let outs = from-none (of_messages straying i) [] 0 s.outs (λ j. weigh-none (λ (m : Message). bit (crooked i (0 + j))) (get_or s.outs j [])
       (λ m among. box j m among)) in
       let inbox' = inbox s.inbox refl in
       omega (arith, jobs, outs, inbox')
     where
-      box : (j : ℕ) (m : Message) → Contains (get_or s.outs j []) m → one_if (crooked i (0 + j)) ≡ 0
-      box j m among = let is = sound.outs j m among in subst (λ n. one_if (crooked i n) ≡ 0) (let e : j ≡ 0 + j = omega arith in e) (straight i j low is.1 is.2)
+      box : (j : ℕ) (m : Message) → Contains (get_or s.outs j []) m → bit (crooked i (0 + j)) ≡ 0
+      box j m among = let is = sound.outs j m among in subst (λ n. bit (crooked i n) ≡ 0) (let e : j ≡ 0 + j = omega arith in e) (straight i j low is.1 is.2)
 
       inbox : (o : Option (ℕ × Message)) → s.inbox ≡ o → of_inbox straying i o ≡ 0
       inbox None none = refl
@@ -85,7 +85,7 @@ module _ (T : Setup) where
     pub link-straight : (J : List Entry) → IsSchedule T J → (a b : ℕ) (m : Message) → Contains (link (world_after T J) a b) m →
         (nat_lt a T.kernels ≡ true) × ((nat_lt b T.kernels ≡ true) × (not (b == a) ≡ true))
     link-straight J runs a b m among =
-        let weighs = weigh-among (λ (q : Message). one_if (crooked a b)) (link (world_after T J) a b) m among in
+        let weighs = weigh-among (λ (q : Message). bit (crooked a b)) (link (world_after T J) a b) m among in
         let part = link-part straying (world_after T J) a b in
         let none = all-straight J runs in
         let pass = passes ((nat_lt a T.kernels && nat_lt b T.kernels) && not (b == a)) (omega (arith, weighs, part, none)) in
@@ -93,6 +93,6 @@ module _ (T : Setup) where
         let inner = and_parts (nat_lt a T.kernels) (nat_lt b T.kernels) outer.0 in
         (inner.0, (inner.1, outer.1))
       where
-        passes : (t : Bool) → one_if (not t) ≡ 0 → t ≡ true
+        passes : (t : Bool) → bit (not t) ≡ 0 → t ≡ true
         passes true none = refl
         passes false none = absurd (omega (arith, none))

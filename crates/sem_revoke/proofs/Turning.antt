@@ -45,7 +45,7 @@ use Rattle.sem_machine.proofs.Weighing.{of_option, weigh-drop}
 use Rattle.sem_safety.proofs.Lives.{all_held, at_parked, at_side, at_message, at_inbox, at_grant, lives-inbox, lives-unparked}
 use Rattle.sem_safety.proofs.LiveWorlds.{at_world}
 use Rattle.sem_revoke.specs.Views.{free_hand, token, request, IsCaused}
-use Rattle.sem_revoke.specs.Scales.{Scale, sum_from, of_messages, of_side, of_inbox, of_world, one_if, requesting, naming, counting, noticing, straying}
+use Rattle.sem_revoke.specs.Scales.{Scale, sum_from, of_messages, of_side, of_inbox, of_world, bit, requesting, naming, counting, noticing, straying}
 use Rattle.sem_revoke.specs.Scales.{requesting_message, notice_message, token_message}
 use Rattle.sem_revoke.proofs.Keeping.{cases_Option}
 use Rattle.sem_revoke.proofs.Scaling.{world-side, world-link, side-inbox, side-sent}
@@ -379,7 +379,7 @@ module _ (T : Setup) (gs : List (KeyName × KeyName)) (W : World) (R : IsReady T
       in_row in
       (at, away, under, inhand)
     where
-      placed-test : (t : Bool) → one_if (not t) ≡ 0 → t ≡ true
+      placed-test : (t : Bool) → bit (not t) ≡ 0 → t ≡ true
       placed-test true none = refl
       placed-test false none = absurd (omega (arith, none))
 

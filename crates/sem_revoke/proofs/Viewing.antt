@@ -28,7 +28,7 @@ use Rattle.sem_safety.proofs.Lives.{at_message, at_parked, at_side, lives-send}
 use Rattle.sem_safety.proofs.LiveWorlds.{at_world}
 use Rattle.sem_safety.proofs.JobIds.{HasIds}
 use Rattle.sem_revoke.specs.Views.{View, Hand, IsAlone, IsCaused, Alive, Gone, Marked, Under, Caught, IsFit, Revokes, IsSingle}
-use Rattle.sem_revoke.specs.Scales.{Scale, of_side, of_world, one_if, requesting, naming, counting, noticing, straying, requesting_message, token_message}
+use Rattle.sem_revoke.specs.Scales.{Scale, of_side, of_world, bit, requesting, naming, counting, noticing, straying, requesting_message, token_message}
 use Rattle.sem_revoke.specs.Scales.{notice_message, stray_message}
 use Rattle.sem_revoke.proofs.Keeping.{HoldsOn, holds-same, fit-on, keep}
 use Rattle.sem_revoke.proofs.Scaling.{side-send}
@@ -69,14 +69,14 @@ rises_distinct cs rise = λ m n d lt within. false_from_ne_true (key_eq (get_or 
     omega (arith, below, one))
 
 -- tests
-pub one-more : (t : Bool) → 1 ≤ one_if t → t ≡ true
+pub one-more : (t : Bool) → 1 ≤ bit t → t ≡ true
 one-more true more = refl
 one-more false more = absurd (omega (arith, more))
 
-pub one-true : (t : Bool) → t ≡ true → one_if t ≡ 1
+pub one-true : (t : Bool) → t ≡ true → bit t ≡ 1
 one-true t pass = cond-true t 1 0 pass
 
-pub one-false : (t : Bool) → t ≡ false → one_if t ≡ 0
+pub one-false : (t : Bool) → t ≡ false → bit t ≡ 0
 one-false t fail = cond-false t 1 0 fail
 
 module _ (C : Scene) where

@@ -5,7 +5,7 @@ use Rattle.sem_machine.specs.Prelude.{KeyName, key_eq, Message, ObtainReq, Obtai
 use Rattle.sem_machine.specs.Prelude.{DelegatePrepared, DelegateNo, Ack, Orphan, RevokeReq, RevokeDone, Unlink, Ask}
 use Rattle.sem_machine.specs.Prelude.{ObtainAsk, DelegateAsk, Parked, VpeRow, is_obtain_wait, World, Side}
 use Rattle.sem_machine.specs.Asks.{is_delegate_wait}
-use Rattle.sem_revoke.specs.Scales.{Scale, one_if, of_world}
+use Rattle.sem_revoke.specs.Scales.{Scale, bit, of_world}
 
 -- an ask of a VPE for the place of that number, or a delegate of that capability
 pub data Exchange : Type 0 where
@@ -23,15 +23,15 @@ is_waiting (Obtaining v n) p = is_obtain_wait n p
 is_waiting (Delegating q) p = is_delegate_wait q p
 
 abbrev pub of_ask : Exchange → Ask → ℕ
-of_ask (Obtaining v n) (ObtainAsk place target) = one_if ((place.vpe == v) && (place.number == n))
+of_ask (Obtaining v n) (ObtainAsk place target) = bit ((place.vpe == v) && (place.number == n))
 of_ask (Obtaining v n) (DelegateAsk parent object sel) = 0
 of_ask (Delegating p) (ObtainAsk place target) = 0
-of_ask (Delegating p) (DelegateAsk parent object sel) = one_if (key_eq parent p)
+of_ask (Delegating p) (DelegateAsk parent object sel) = bit (key_eq parent p)
 
 abbrev pub of_message : Exchange → Message → ℕ
-of_message (Obtaining v n) (ObtainReq place target) = one_if ((place.vpe == v) && (place.number == n))
-of_message (Obtaining v n) (ObtainOk parent key object) = one_if ((key.vpe == v) && (key.number == n))
-of_message (Obtaining v n) (ObtainNo place code) = one_if ((place.vpe == v) && (place.number == n))
+of_message (Obtaining v n) (ObtainReq place target) = bit ((place.vpe == v) && (place.number == n))
+of_message (Obtaining v n) (ObtainOk parent key object) = bit ((key.vpe == v) && (key.number == n))
+of_message (Obtaining v n) (ObtainNo place code) = bit ((place.vpe == v) && (place.number == n))
 of_message (Obtaining v n) (DelegateReq parent object vpe sel) = 0
 of_message (Obtaining v n) (DelegatePrepared parent key) = 0
 of_message (Obtaining v n) (DelegateNo parent code) = 0
@@ -43,9 +43,9 @@ of_message (Obtaining v n) (Unlink parent key) = 0
 of_message (Delegating p) (ObtainReq place target) = 0
 of_message (Delegating p) (ObtainOk parent key object) = 0
 of_message (Delegating p) (ObtainNo place code) = 0
-of_message (Delegating p) (DelegateReq parent object vpe sel) = one_if (key_eq parent p)
-of_message (Delegating p) (DelegatePrepared parent key) = one_if (key_eq parent p)
-of_message (Delegating p) (DelegateNo parent code) = one_if (key_eq parent p)
+of_message (Delegating p) (DelegateReq parent object vpe sel) = bit (key_eq parent p)
+of_message (Delegating p) (DelegatePrepared parent key) = bit (key_eq parent p)
+of_message (Delegating p) (DelegateNo parent code) = bit (key_eq parent p)
 of_message (Delegating p) (Ack key accepted) = 0
 of_message (Delegating p) (Orphan parent key) = 0
 of_message (Delegating p) (RevokeReq key job) = 0

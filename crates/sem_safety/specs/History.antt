@@ -1,9 +1,10 @@
 -- What a proof keeps of a journal so far ("Histories" in docs/proof.md).
 use Rattle.std.specs.Prelude.{ℕ, ◌+◌, ◌==◌, Bool, false, not, ◌&&◌, List, [], ◌∷◌, ◌++◌, filter, flat_map, fold}
-use Rattle.std.specs.Prelude.{Option, Some, None, option_to_list}
+use Rattle.std.specs.Prelude.{option_to_list}
 use Rattle.std.specs.Option.{option_map_or}
-use Rattle.sem_machine.specs.Prelude.{KeyName, Exit, Act, Calls, Kill, Detail, Called, Entry}
+use Rattle.sem_machine.specs.Prelude.{KeyName, Act, Calls, Entry}
 use Rattle.sem_machine.specs.Journals.{cut_off}
+pub use Rattle.sem_machine.specs.Journals.{ended_by}
 
 pub record History : Type 0 where
   -- the grants: each a parent and its child, in order
@@ -24,12 +25,6 @@ pub record History : Type 0 where
 -- before the first entry
 abbrev pub no_history : History
 no_history = record { grants = []; cuts = []; cut = []; ended = []; waiting = []; answered = []; entries = 0 }
-
--- the VPE that ends by an act, if one does: it is killed, or calls `exit`
-abbrev pub ended_by : Act → Detail → Option ℕ
-ended_by (Kill w) detail = Some w
-ended_by (Calls w) (Called index Exit) = Some w
-ended_by act detail = None
 
 -- what an entry cuts off, given the grants before it
 abbrev pub cut_at : List (KeyName × KeyName) → Entry → List KeyName
