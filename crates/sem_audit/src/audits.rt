@@ -20,7 +20,7 @@ pub fn audit_of(
     ensures made { IfOk result (λ audit.
         audit.made ≡ length (made_spec setup.now journal.now.entries)) }
     ensures cut { IfOk result (λ audit. audit.cut ≡ length (cut setup.now journal.now.entries)) }
-    ensures keys_held { IfOk result (λ audit.
+    ensures held { IfOk result (λ audit.
         held_pairs audit.held ≡ keys_held (map (λ k. k.side) kernels.now)) }
 {
     let made = made_keys(alloc, setup, journal)?;

@@ -2,7 +2,7 @@ ghost use Rattle.std.specs.Prelude.{◌≡◌, ℕ, ◌<◌, ◌≤◌, ◌+◌,
 ghost use Rattle.sem_key.specs.CapList.{cap_of};
 ghost use Rattle.sem_msg.specs.declared.message.Message.TheVariants.{Ack};
 ghost use Rattle.sem_msg.specs.Lookups.{kernel_of as kernel_of_spec, owner_of as owner_of_spec};
-ghost use Rattle.sem_msg.specs.Outboxes.{HasBoxes};
+ghost use Rattle.sem_msg.specs.Outboxes.{CanSend, HasSent};
 ghost use Rattle.sem_vpe.specs.VpeTable.{AreOurs, IsOurs};
 ghost use Rattle.sem_machine.specs.Sides.{Side};
 ghost use Rattle.sem_machine.specs.Handles.{handle_row};
@@ -33,18 +33,16 @@ pub fn ack(
     requires home { AreOurs setup.now kernel vpes.old }
     requires vpe { kernel_of_spec setup.now key.vpe ≡ kernel }
     requires holds { CanHold setup.now caps.old key (pending_of pendings.old.pendings key) }
-    requires boxes { HasBoxes setup.now outs.old }
+    requires sends { CanSend setup.now outs.old }
     requires caps_spare { 0 < caps.old.spare }
-    requires spare { 0 < outs.old.spare }
     ensures row { (from : ℕ) (s : Side) →
         acking caps.new vpes.new pendings.new outs.new s
         ≡ handle_row setup.now kernel (acking caps.old vpes.old pendings.old outs.old s) from
         (Ack key yes) }
     ensures ours { vpes.new.ours ≡ vpes.old.ours }
-    ensures boxes { HasBoxes setup.now outs.new }
+    ensures left { HasSent setup.now outs.old outs.new }
     ensures caps_spare { caps.old.spare ≤ caps.new.spare + 1 }
     ensures pendings_spare { pendings.old.spare ≤ pendings.new.spare }
-    ensures spare { outs.old.spare ≤ outs.new.spare + 1 }
 {
     let pending = pendings.take(key);
     let Some(pending) = &pending else {
@@ -70,16 +68,14 @@ fn hold(
     requires ours { IsOurs vpes.old key.vpe }
     requires absent { cap_of caps.old.caps key ≡ None }
     requires owner { owner_of_spec setup.now pending.now.parent < setup.now.kernels }
-    requires boxes { HasBoxes setup.now outs.old }
+    requires sends { CanSend setup.now outs.old }
     requires caps_spare { 0 < caps.old.spare }
-    requires spare { 0 < outs.old.spare }
     ensures row { (s : Side) →
         keeping caps.new vpes.new outs.new s
         ≡ held_or_orphaned setup.now key pending.now (keeping caps.old vpes.old outs.old s) }
     ensures ours { vpes.new.ours ≡ vpes.old.ours }
-    ensures boxes { HasBoxes setup.now outs.new }
+    ensures left { HasSent setup.now outs.old outs.new }
     ensures caps_spare { caps.old.spare ≤ caps.new.spare + 1 }
-    ensures spare { outs.old.spare ≤ outs.new.spare + 1 }
 {
     let (vpe, parent) = (key.vpe, pending.parent);
     if vpes.alive(vpe) {

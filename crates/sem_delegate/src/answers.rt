@@ -2,7 +2,7 @@ ghost use Rattle.std.specs.Prelude.{◌≡◌, ◌≢◌, ℕ, ◌<◌, ◌≤�
 ghost use Rattle.sem_msg.specs.declared.message.Message.TheVariants.{DelegateNo, DelegatePrepared};
 ghost use Rattle.sem_msg.specs.declared.message.Message.TheVariants.{DelegateReq};
 ghost use Rattle.sem_msg.specs.Lookups.{kernel_of as kernel_of_spec, owner_of as owner_of_spec};
-ghost use Rattle.sem_msg.specs.Outboxes.{HasBoxes};
+ghost use Rattle.sem_msg.specs.Outboxes.{CanSend, HasSent};
 ghost use Rattle.sem_msg.specs.ParkedStates.{state_of};
 ghost use Rattle.sem_vpe.specs.VpeTable.{AreOurs};
 ghost use Rattle.sem_machine.specs.Asks.{call_refused, is_delegate_wait};
@@ -34,15 +34,13 @@ pub fn delegate_request(
     requires vpe { kernel_of_spec setup.now vpe ≡ kernel }
     requires other { kernel_of_spec setup.now parent.vpe ≢ kernel }
     requires owner { owner_of_spec setup.now parent < setup.now.kernels }
-    requires boxes { HasBoxes setup.now outs.old }
-    requires spare { 0 < outs.old.spare }
+    requires sends { CanSend setup.now outs.old }
     ensures row { (from : ℕ) (s : Side) →
         with_vpes vpes.new.rows (with_outs outs.new.boxes s)
         ≡ handle_row setup.now kernel (with_vpes vpes.old.rows (with_outs outs.old.boxes s)) from
         (DelegateReq parent object vpe sel) }
     ensures ours { vpes.new.ours ≡ vpes.old.ours }
-    ensures boxes { HasBoxes setup.now outs.new }
-    ensures spare { outs.old.spare ≤ outs.new.spare + 1 }
+    ensures left { HasSent setup.now outs.old outs.new }
 {
     if vpes.alive(vpe) {
         vpes.ask(
@@ -73,14 +71,12 @@ pub fn delegate_prepared(
     requires home { AreOurs setup.now kernel vpes.now }
     requires vpe { kernel_of_spec setup.now parent.vpe ≡ kernel }
     requires owner { owner_of_spec setup.now key < setup.now.kernels }
-    requires boxes { HasBoxes setup.now outs.old }
-    requires spare { 0 < outs.old.spare }
+    requires sends { CanSend setup.now outs.old }
     ensures row { (from : ℕ) (s : Side) →
         with_vpes_parks_outs vpes.now.rows park.new outs.new.boxes s
         ≡ handle_row setup.now kernel (with_vpes_parks_outs vpes.now.rows park.old outs.old.boxes s)
         from (DelegatePrepared parent key) }
-    ensures boxes { HasBoxes setup.now outs.new }
-    ensures spare { outs.old.spare ≤ outs.new.spare + 1 }
+    ensures left { HasSent setup.now outs.old outs.new }
 {
     if vpes.alive(parent.vpe) {
         park.park(parent.vpe, Parked::DelegateReady { parent, key });

@@ -8,7 +8,7 @@ ghost use Rattle.sem_msg.specs.declared.message.Message.TheVariants.{Orphan};
 ghost use Rattle.sem_msg.specs.Codes.{code_number};
 ghost use Rattle.sem_msg.specs.Lookups.{owner_of as owner_of_spec};
 ghost use Rattle.sem_msg.specs.Message.{Fits, IsDelegable, IsRefusal};
-ghost use Rattle.sem_msg.specs.Outboxes.{HasBoxes, box_for, with_box};
+ghost use Rattle.sem_msg.specs.Outboxes.{CanSend, HasSent, box_for, with_box};
 
 use sem_key::{Key, Object};
 use sem_msg::{Code, Message, Outboxes, Setup};
@@ -70,13 +70,11 @@ pub fn orphaned(parent: Key, key: Key) -> Message
 pub fn tell_owner(setup: &Setup, key: Key, message: Message, outs: &mut Outboxes)
     requires fits { Fits message }
     requires owner { owner_of_spec setup.now key < setup.now.kernels }
-    requires boxes { HasBoxes setup.now outs.old }
-    requires spare { 0 < outs.old.spare }
+    requires sends { CanSend setup.now outs.old }
     ensures sent { outs.new.boxes
         ≡ with_box outs.old.boxes (owner_of_spec setup.now key)
         (box_for outs.old.boxes (owner_of_spec setup.now key) ++ message ∷ []) }
-    ensures boxes { HasBoxes setup.now outs.new }
-    ensures spare { outs.old.spare ≤ outs.new.spare + 1 }
+    ensures left { HasSent setup.now outs.old outs.new }
 {
     outs.send(setup.owner_of(key), message);
 }

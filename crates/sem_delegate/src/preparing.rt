@@ -2,7 +2,7 @@ ghost use Rattle.std.specs.Prelude.{◌≡◌, ◌≢◌, ◌<◌, ◌≤◌, �
 ghost use Rattle.sem_msg.specs.declared.state.Ask.TheVariants.{Delegate as DelegateAsk};
 ghost use Rattle.sem_msg.specs.Lookups.{is_declared, kernel_of as kernel_of_spec};
 ghost use Rattle.sem_msg.specs.Lookups.{owner_of as owner_of_spec};
-ghost use Rattle.sem_msg.specs.Outboxes.{HasBoxes};
+ghost use Rattle.sem_msg.specs.Outboxes.{CanSend, HasSent};
 ghost use Rattle.sem_vpe.specs.VpeTable.{IsOurs};
 ghost use Rattle.sem_machine.specs.Sides.{Side, no_side};
 ghost use Rattle.sem_machine.specs.Steps.{first_code, unshown};
@@ -34,17 +34,15 @@ pub fn decide_elsewhere(
     requires declared { is_declared setup.now vpe ≡ true }
     requires ours { IsOurs vpes.old vpe }
     requires owner { owner_of_spec setup.now parent < setup.now.kernels }
-    requires boxes { HasBoxes setup.now outs.old }
+    requires sends { CanSend setup.now outs.old }
     requires pendings_spare { 0 < pendings.old.spare }
-    requires spare { 0 < outs.old.spare }
     ensures row { (s : Side) →
         record { side = preparing vpes.new pendings.new outs.new s; outcome = result }
         ≡ ask_decided setup.now kernel vpe (DelegateAsk parent object sel)
         (preparing vpes.old pendings.old outs.old s) }
     ensures ours { vpes.new.ours ≡ vpes.old.ours }
-    ensures boxes { HasBoxes setup.now outs.new }
+    ensures left { HasSent setup.now outs.old outs.new }
     ensures pendings_spare { pendings.old.spare ≤ pendings.new.spare + 1 }
-    ensures spare { outs.old.spare ≤ outs.new.spare + 1 }
 {
     let asker = parent.vpe;
     if setup.denies(vpe, asker) {
@@ -75,17 +73,15 @@ fn prepare(
     requires free { first_code (destination_tests (with_vpes vpes.old.rows no_side) vpe sel)
         ≡ None }
     requires owner { owner_of_spec setup.now parent < setup.now.kernels }
-    requires boxes { HasBoxes setup.now outs.old }
+    requires sends { CanSend setup.now outs.old }
     requires pendings_spare { 0 < pendings.old.spare }
-    requires spare { 0 < outs.old.spare }
     ensures row { (s : Side) →
         unshown (preparing vpes.new pendings.new outs.new s)
         ≡ delegate_prepared setup.now vpe parent object sel
         (preparing vpes.old pendings.old outs.old s) }
     ensures ours { vpes.new.ours ≡ vpes.old.ours }
-    ensures boxes { HasBoxes setup.now outs.new }
+    ensures left { HasSent setup.now outs.old outs.new }
     ensures pendings_spare { pendings.old.spare ≤ pendings.new.spare + 1 }
-    ensures spare { outs.old.spare ≤ outs.new.spare + 1 }
 {
     let key = draw_key(setup, vpe, parent.kind, vpes);
     let Ok(()) = vpes.promise(vpe, sel) else {

@@ -2,7 +2,7 @@ ghost use Rattle.std.specs.Prelude.{◌≡◌, ◌<◌, ◌≤◌, ◌+◌};
 ghost use Rattle.sem_key.specs.declared.limits.TheConstants.{VPES};
 ghost use Rattle.sem_key.specs.CapList.{cap_of};
 ghost use Rattle.sem_msg.specs.Lookups.{owner_of as owner_of_spec};
-ghost use Rattle.sem_msg.specs.Outboxes.{HasBoxes};
+ghost use Rattle.sem_msg.specs.Outboxes.{CanSend, HasSent};
 ghost use Rattle.sem_msg.specs.ParkedStates.{state_of};
 ghost use Rattle.sem_msg.specs.Setup.{Setup as SetupOf};
 ghost use Rattle.sem_machine.specs.Sides.{Side};
@@ -29,14 +29,12 @@ pub fn delegate_resume(
 ) -> Outcome
     requires vpe { vpe < VPES }
     requires waits { CanGrant setup.now caps.old (state_of park.old vpe) }
-    requires boxes { HasBoxes setup.now outs.old }
-    requires spare { 0 < outs.old.spare }
+    requires sends { CanSend setup.now outs.old }
     ensures row { (s : Side) →
         record { side = resuming caps.new park.new outs.new s; outcome = result }
         ≡ resume_row setup.now (resuming caps.old park.old outs.old s) vpe }
-    ensures boxes { HasBoxes setup.now outs.new }
+    ensures left { HasSent setup.now outs.old outs.new }
     ensures caps_spare { caps.new.spare ≡ caps.old.spare }
-    ensures spare { outs.old.spare ≤ outs.new.spare + 1 }
 {
     let state = park.state(vpe);
     park.clear(vpe);
@@ -50,15 +48,13 @@ pub fn delegate_resume(
 fn grant(setup: &Setup, parent: Key, key: Key, caps: &mut Caps, outs: &mut Outboxes) -> Outcome
     requires room { HasRoomFor caps.old parent }
     requires owner { owner_of_spec setup.now key < setup.now.kernels }
-    requires boxes { HasBoxes setup.now outs.old }
-    requires spare { 0 < outs.old.spare }
+    requires sends { CanSend setup.now outs.old }
     ensures row { (s : Side) →
         record { side = with_caps caps.new.caps (with_outs outs.new.boxes s); outcome = result }
         ≡ delegate_resumed setup.now parent key (cap_of caps.old.caps parent)
         (with_caps caps.old.caps (with_outs outs.old.boxes s)) }
-    ensures boxes { HasBoxes setup.now outs.new }
+    ensures left { HasSent setup.now outs.old outs.new }
     ensures caps_spare { caps.new.spare ≡ caps.old.spare }
-    ensures spare { outs.old.spare ≤ outs.new.spare + 1 }
 {
     if let Some(code) = parent_refusal(caps, parent) {
         tell_owner(setup, key, acknowledgement(key, false), outs);

@@ -2,7 +2,7 @@ ghost use Rattle.std.specs.Prelude.{◌≡◌, ◌<◌, ◌≤◌, ◌+◌, true
 ghost use Rattle.sem_msg.specs.declared.state.Ask.TheVariants.{Delegate as DelegateAsk};
 ghost use Rattle.sem_msg.specs.Lookups.{is_declared, kernel_of as kernel_of_spec};
 ghost use Rattle.sem_msg.specs.Lookups.{owner_of as owner_of_spec};
-ghost use Rattle.sem_msg.specs.Outboxes.{HasBoxes};
+ghost use Rattle.sem_msg.specs.Outboxes.{CanSend, HasSent};
 ghost use Rattle.sem_vpe.specs.VpeTable.{AreOurs};
 ghost use Rattle.sem_machine.specs.Sides.{Side};
 ghost use Rattle.sem_machine.specs.Stores.{IsNextFree};
@@ -42,10 +42,9 @@ pub fn delegate_upcall(
     requires owner { owner_of_spec setup.now parent < setup.now.kernels }
     requires free { IsNextFree setup.now caps.old.caps vpes.old.rows vpe }
     requires child_room { HasRoomFor caps.old parent }
-    requires boxes { HasBoxes setup.now outs.old }
+    requires sends { CanSend setup.now outs.old }
     requires caps_spare { 0 < caps.old.spare }
     requires pendings_spare { 0 < pendings.old.spare }
-    requires spare { 0 < outs.old.spare }
     ensures row { (s : Side) →
         record {
           side = consenting caps.new vpes.new park.new pendings.new outs.new s;
@@ -54,10 +53,9 @@ pub fn delegate_upcall(
         ≡ ask_decided setup.now kernel vpe (DelegateAsk parent object sel)
         (consenting caps.old vpes.old park.old pendings.old outs.old s) }
     ensures ours { vpes.new.ours ≡ vpes.old.ours }
-    ensures boxes { HasBoxes setup.now outs.new }
+    ensures left { HasSent setup.now outs.old outs.new }
     ensures caps_spare { caps.old.spare ≤ caps.new.spare + 1 }
     ensures pendings_spare { pendings.old.spare ≤ pendings.new.spare + 1 }
-    ensures spare { outs.old.spare ≤ outs.new.spare + 1 }
 {
     if setup.kernel_of(parent.vpe) == kernel {
         decide_here(setup, kernel, vpe, parent, object, sel, caps, vpes, park)

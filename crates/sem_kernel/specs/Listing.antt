@@ -3,9 +3,11 @@ use Rattle.std.specs.Prelude.{◌≡◌, ℕ, ◌<◌, ◌==◌, Bool, ◌&&◌,
 use Rattle.std.specs.List.{range_with_len}
 use Rattle.sem_key.specs.declared.limits.TheConstants.{KERNELS, VPES}
 use Rattle.sem_machine.specs.Prelude.{Act, Calls as Call, Fetch, Upcall, Resume, Flush, Event, Setup, Side, World}
-use Rattle.sem_machine.specs.Prelude.{is_enabled, is_locally_enabled}
+use Rattle.sem_machine.specs.Prelude.{is_enabled, is_locally_enabled, FabricValue}
 use Rattle.sem_msg.specs.Masks.{has_bit}
 use Rattle.sem_machine.specs.Machine.{kernel_events, event}
+use Rattle.sem_kernel.specs.KernelValue.{KernelValue}
+use Rattle.sem_kernel.specs.Worlds.{AreKernelsOf}
 use Rattle.sem_kernel.specs.declared.enabling.VpeActs.{VpeActs}
 use Rattle.sem_kernel.specs.declared.listing.VpeRow.{VpeRow}
 use Rattle.sem_kernel.specs.declared.listing.VpeRow.TheVariants.{Calls, Resumes, Upcalls}
@@ -48,10 +50,19 @@ vpes_in mask = filter (has_bit mask) (range_with_len 0 VPES)
 abbrev pub vpe_events : ℕ → VpeRow → ℕ → List Event
 vpe_events i row mask = map (λ v. event i (vpe_act row v)) (vpes_in mask)
 
+-- kernels and fabric are those of the setup, and kernel i is one of them
+pub record IsKernelAmong (T : Setup) (ks : List KernelValue) (f : FabricValue) (i : ℕ) : Type 0 where
+  pub together : AreKernelsOf T ks f
+  pub few : i < T.kernels
+
 -- the act of a row for another kernel
 abbrev pub peer_act : PeerRow → ℕ → Act
 peer_act Fetches j = Fetch j
 peer_act Flushes j = Flush j
+
+-- the enabled events of a row of kernel i for other kernels
+abbrev pub enabled_peers : Setup → World → ℕ → PeerRow → List Event
+enabled_peers T W i row = enabled_among T W (map (λ j. event i (peer_act row j)) (range_with_len 0 T.kernels))
 
 -- the kernels other than kernel i for which the mask has a bit, in rising order
 abbrev pub others_in : ℕ → ℕ → List ℕ

@@ -29,7 +29,7 @@ pub fn carry(kernel: &Kernel, fabric: &mut Fabric, act: Act) -> Option<Message>
     requires { CanDo kernel.now fabric.old act }
     ensures taken { result ≡ taken fabric.old kernel.now.id act }
     ensures input { IsInput act result }
-    ensures fabric_moved { fabric.new ≡ fabric_moved kernel.now.id kernel.now.side act fabric.old }
+    ensures carried { fabric.new ≡ fabric_moved kernel.now.id kernel.now.side act fabric.old }
 {
     match act {
         Act::Fetch { from } => fabric.fetch(kernel.id(), from),

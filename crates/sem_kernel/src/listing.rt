@@ -1,14 +1,15 @@
 // The list of the enabled events of kernels and their fabric.
 ghost use Rattle.std.specs.Prelude.{◌≡◌, ◌<◌, ◌==◌, ◌||◌, ◌++◌, ◌∷◌, [], map};
 ghost use Rattle.std.specs.Prelude.{IfOk, OnOk, OnErr};
-ghost use Rattle.std.specs.List.{range_with_len};
-ghost use Rattle.sem_msg.specs.declared.event.Act.TheVariants.{Fetch, Handle, Flush, Kill};
+ghost use Rattle.sem_msg.specs.declared.event.Act.TheVariants.{Handle, Kill};
 ghost use Rattle.sem_msg.specs.Masks.{has_bit};
 ghost use Rattle.sem_machine.specs.Machine.{event, enabled};
+ghost use Rattle.sem_kernel.specs.declared.listing.PeerRow.TheVariants.{Fetches, Flushes};
 ghost use Rattle.sem_kernel.specs.declared.listing.VpeRow.TheVariants.{Calls, Resumes, Upcalls};
 ghost use Rattle.sem_kernel.specs.Worlds.{world_of, AreKernelsOf};
-ghost use Rattle.sem_kernel.specs.Listing.{enabled_of, enabled_among, enabled_in, vpe_events};
-ghost use Rattle.sem_kernel.specs.Listing.{IsVpeMaskOf, others_in, vpe_act, peer_act};
+ghost use Rattle.sem_kernel.specs.Listing.{enabled_of, enabled_among, enabled_in, enabled_peers};
+ghost use Rattle.sem_kernel.specs.Listing.{IsKernelAmong, IsVpeMaskOf, others_in, peer_act, vpe_act};
+ghost use Rattle.sem_kernel.specs.Listing.{vpe_events};
 
 use crate::happening::is_enabled;
 use crate::kernel::Kernel;
@@ -115,8 +116,7 @@ fn append_rows(
     kernel: u32,
     out: &mut Vec<Event>,
 ) -> Result<(), OutOfMemory>
-    requires together { AreKernelsOf setup.now kernels.now fabric.now }
-    requires few { kernel < setup.now.kernels }
+    requires { IsKernelAmong setup.now kernels.now fabric.now kernel }
     ensures { OnOk result (out.new.items ≡ out.old.items
         ++ enabled_of setup.now (world_of kernels.now fabric.now) kernel) }
 {
@@ -138,8 +138,7 @@ fn append_calls(
     kernel: u32,
     out: &mut Vec<Event>,
 ) -> Result<VpeMasks, OutOfMemory>
-    requires together { AreKernelsOf setup.now kernels.now fabric.now }
-    requires few { kernel < setup.now.kernels }
+    requires { IsKernelAmong setup.now kernels.now fabric.now kernel }
     ensures calls { OnOk result (out.new.items ≡ out.old.items
         ++ enabled_in setup.now (world_of kernels.now fabric.now) kernel Calls) }
     ensures resumes { IfOk result (λ masks. vpe_events kernel Resumes masks.resumes
@@ -208,8 +207,7 @@ fn append_handling(
     kernel: u32,
     out: &mut Vec<Event>,
 ) -> Result<(), OutOfMemory>
-    requires together { AreKernelsOf setup.now kernels.now fabric.now }
-    requires few { kernel < setup.now.kernels }
+    requires { IsKernelAmong setup.now kernels.now fabric.now kernel }
     ensures { OnOk result (out.new.items ≡ out.old.items
         ++ enabled_among setup.now (world_of kernels.now fabric.now) (event kernel Handle ∷ [])) }
 {
@@ -230,11 +228,9 @@ fn append_fetches(
     kernel: u32,
     out: &mut Vec<Event>,
 ) -> Result<(), OutOfMemory>
-    requires together { AreKernelsOf setup.now kernels.now fabric.now }
-    requires few { kernel < setup.now.kernels }
+    requires { IsKernelAmong setup.now kernels.now fabric.now kernel }
     ensures { OnOk result (out.new.items ≡ out.old.items
-        ++ enabled_among setup.now (world_of kernels.now fabric.now)
-        (map (λ j. event kernel (Fetch j)) (range_with_len 0 setup.now.kernels))) }
+        ++ enabled_peers setup.now (world_of kernels.now fabric.now) kernel Fetches) }
 {
     // Shows the proof what a setup keeps.
     let _ = &setup.vpes;
@@ -253,11 +249,9 @@ fn append_flushes(
     kernel: u32,
     out: &mut Vec<Event>,
 ) -> Result<(), OutOfMemory>
-    requires together { AreKernelsOf setup.now kernels.now fabric.now }
-    requires few { kernel < setup.now.kernels }
+    requires { IsKernelAmong setup.now kernels.now fabric.now kernel }
     ensures { OnOk result (out.new.items ≡ out.old.items
-        ++ enabled_among setup.now (world_of kernels.now fabric.now)
-        (map (λ j. event kernel (Flush j)) (range_with_len 0 setup.now.kernels))) }
+        ++ enabled_peers setup.now (world_of kernels.now fabric.now) kernel Flushes) }
 {
     // Shows the proof what a setup keeps.
     let _ = &setup.vpes;

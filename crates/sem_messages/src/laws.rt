@@ -56,5 +56,5 @@ pub fn each_kind_is_sent()
     ensures notices { (count_sent is_orphan each_kind_journal ≡ 1)
         × (count_sent is_unlink each_kind_journal ≡ 1) }
     ensures grants { grants_across each_kind each_kind_journal ≡ 3 }
-    ensures all_sent { length (all_sent each_kind_journal) ≡ 15 }
+    ensures sent { length (all_sent each_kind_journal) ≡ 15 }
 {}

@@ -1,5 +1,5 @@
 -- The outboxes of a kernel as contracts see them ("State" in docs/machine.md).
-use Rattle.std.specs.Prelude.{◌≡◌, ℕ, List, [], length, slice_get, slice_index_or, is_some, All}
+use Rattle.std.specs.Prelude.{◌≡◌, ◌<◌, ◌≤◌, ◌+◌, ℕ, List, [], length, slice_get, slice_index_or, is_some, All}
 use Rattle.sem_key.specs.Prelude.{put}
 use Rattle.sem_msg.specs.declared.message.Message.{Message}
 use Rattle.sem_msg.specs.Message.{Fits}
@@ -31,3 +31,13 @@ AreFilled boxes mask = IsMaskOf (λ to. is_some (slice_get (box_for boxes to) 0)
 -- there is a box for each kernel of the setup
 abbrev pub HasBoxes : Setup → OutboxList → Type 0
 HasBoxes T outs = length outs.boxes ≡ T.kernels
+
+-- a message can be sent: there is a box for it, and it takes no memory
+pub record CanSend (T : Setup) (outs : OutboxList) : Type 0 where
+  pub boxes : HasBoxes T outs
+  pub spare : 0 < outs.spare
+
+-- at most one message was sent
+pub record HasSent (T : Setup) (outs outs_after : OutboxList) : Type 0 where
+  pub boxes : HasBoxes T outs_after
+  pub spare : outs.spare ≤ outs_after.spare + 1

@@ -4,7 +4,7 @@ ghost use Rattle.sem_msg.specs.declared.message.Message.TheVariants.{Orphan};
 ghost use Rattle.sem_msg.specs.Lookups.{kernel_of as kernel_of_spec, owner_of as owner_of_spec};
 ghost use Rattle.sem_msg.specs.Lookups.{place_owner as place_owner_spec};
 ghost use Rattle.sem_msg.specs.Message.{Fits};
-ghost use Rattle.sem_msg.specs.Outboxes.{HasBoxes};
+ghost use Rattle.sem_msg.specs.Outboxes.{CanSend, HasSent};
 ghost use Rattle.sem_vpe.specs.VpeTable.{AreOurs};
 ghost use Rattle.sem_machine.specs.Asks.{target_vpe as target_vpe_spec};
 ghost use Rattle.sem_machine.specs.Sides.{Side};
@@ -41,14 +41,12 @@ pub fn obtain_answer(
     requires home { AreOurs setup.now kernel vpes.now }
     requires vpe { kernel_of_spec setup.now key.vpe ≡ kernel }
     requires owner { owner_of_spec setup.now parent < setup.now.kernels }
-    requires boxes { HasBoxes setup.now outs.old }
-    requires spare { 0 < outs.old.spare }
+    requires sends { CanSend setup.now outs.old }
     ensures row { (from : ℕ) (s : Side) →
         with_vpes_parks_outs vpes.now.rows park.new outs.new.boxes s
         ≡ handle_row setup.now kernel (with_vpes_parks_outs vpes.now.rows park.old outs.old.boxes s)
         from (ObtainOk parent key object) }
-    ensures boxes { HasBoxes setup.now outs.new }
-    ensures spare { outs.old.spare ≤ outs.new.spare + 1 }
+    ensures left { HasSent setup.now outs.old outs.new }
 {
     if !vpes.alive(key.vpe) {
         outs.send(setup.owner_of(parent), orphaned(parent, key));
@@ -103,15 +101,13 @@ pub fn obtain_request(
     requires vpe { kernel_of_spec setup.now (target_vpe_spec target) ≡ kernel }
     requires other { kernel_of_spec setup.now place.vpe ≢ kernel }
     requires owner { place_owner_spec setup.now place < setup.now.kernels }
-    requires boxes { HasBoxes setup.now outs.old }
-    requires spare { 0 < outs.old.spare }
+    requires sends { CanSend setup.now outs.old }
     ensures row { (from : ℕ) (s : Side) →
         with_vpes vpes.new.rows (with_outs outs.new.boxes s)
         ≡ handle_row setup.now kernel (with_vpes vpes.old.rows (with_outs outs.old.boxes s)) from
         (ObtainReq place target) }
     ensures ours { vpes.new.ours ≡ vpes.old.ours }
-    ensures boxes { HasBoxes setup.now outs.new }
-    ensures spare { outs.old.spare ≤ outs.new.spare + 1 }
+    ensures left { HasSent setup.now outs.old outs.new }
 {
     let vpe = target.vpe();
     if vpes.alive(vpe) {

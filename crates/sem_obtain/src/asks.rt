@@ -2,7 +2,7 @@ ghost use Rattle.std.specs.Prelude.{◌≡◌, ◌<◌, ◌≤◌, ◌+◌, true
 ghost use Rattle.sem_msg.specs.declared.message.Message.TheVariants.{ObtainReq};
 ghost use Rattle.sem_msg.specs.Lookups.{is_declared, kernel_of as kernel_of_spec};
 ghost use Rattle.sem_msg.specs.Message.{Fits, IsValidTarget};
-ghost use Rattle.sem_msg.specs.Outboxes.{HasBoxes};
+ghost use Rattle.sem_msg.specs.Outboxes.{CanSend, HasSent};
 ghost use Rattle.sem_vpe.specs.VpeTable.{AreOurs};
 ghost use Rattle.sem_machine.specs.Asks.{target_vpe as target_vpe_spec};
 ghost use Rattle.sem_machine.specs.Sides.{Side, no_side};
@@ -44,15 +44,13 @@ pub fn make_ask(
     requires target { IsValidTarget target }
     requires free { first_code (destination_tests (with_vpes vpes.old.rows no_side) vpe dst)
         ≡ None }
-    requires boxes { HasBoxes setup.now outs.old }
-    requires spare { 0 < outs.old.spare }
+    requires sends { CanSend setup.now outs.old }
     ensures row { (s : Side) →
         unshown (with_vpes_parks_outs vpes.new.rows park.new outs.new.boxes s)
         ≡ ask_made setup.now kernel vpe dst target
         (with_vpes_parks_outs vpes.old.rows park.old outs.old.boxes s) }
     ensures ours { vpes.new.ours ≡ vpes.old.ours }
-    ensures boxes { HasBoxes setup.now outs.new }
-    ensures spare { outs.old.spare ≤ outs.new.spare + 1 }
+    ensures left { HasSent setup.now outs.old outs.new }
 {
     let pe = setup.pe_of(vpe);
     let Ok(number) = vpes.draw(vpe) else {

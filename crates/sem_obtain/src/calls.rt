@@ -5,7 +5,7 @@ ghost use Rattle.sem_msg.specs.declared.message.Target.TheVariants.{Sel as SelTa
 ghost use Rattle.sem_msg.specs.declared.message.Target.TheVariants.{Serv as ServTarget};
 ghost use Rattle.sem_key.specs.declared.key.Kind.TheVariants.{Serv as ServKind};
 ghost use Rattle.sem_msg.specs.Message.{IsValidTarget};
-ghost use Rattle.sem_msg.specs.Outboxes.{HasBoxes};
+ghost use Rattle.sem_msg.specs.Outboxes.{CanSend, HasSent};
 ghost use Rattle.sem_vpe.specs.VpeTable.{AreOurs};
 ghost use Rattle.sem_machine.specs.Sides.{Side, no_side, own};
 ghost use Rattle.sem_machine.specs.Sound.{IsSoundObject};
@@ -37,8 +37,7 @@ pub fn obtain_call(
     requires home { AreOurs setup.now kernel vpes.old }
     requires vpe { kernel_of_spec setup.now vpe ≡ kernel }
     requires declared { is_declared setup.now vpe ≡ true }
-    requires boxes { HasBoxes setup.now outs.old }
-    requires spare { 0 < outs.old.spare }
+    requires sends { CanSend setup.now outs.old }
     ensures row { (s : Side) →
         record {
           side = with_vpes_parks_outs vpes.new.rows park.new outs.new.boxes s;
@@ -47,8 +46,7 @@ pub fn obtain_call(
         ≡ obtain_row setup.now kernel (with_vpes_parks_outs vpes.old.rows park.old outs.old.boxes s)
         vpe dst other src }
     ensures ours { vpes.new.ours ≡ vpes.old.ours }
-    ensures boxes { HasBoxes setup.now outs.new }
-    ensures spare { outs.old.spare ≤ outs.new.spare + 1 }
+    ensures left { HasSent setup.now outs.old outs.new }
 {
     if let Some(code) = obtain_refusal(setup, kernel, vpe, dst, other, vpes) {
         return Outcome::answered(code);
@@ -83,8 +81,7 @@ pub fn open_call(
     requires home { AreOurs setup.now kernel vpes.old }
     requires vpe { kernel_of_spec setup.now vpe ≡ kernel }
     requires declared { is_declared setup.now vpe ≡ true }
-    requires boxes { HasBoxes setup.now outs.old }
-    requires spare { 0 < outs.old.spare }
+    requires sends { CanSend setup.now outs.old }
     ensures row { (s : Side) →
         record {
           side = with_vpes_parks_outs vpes.new.rows park.new outs.new.boxes s;
@@ -93,8 +90,7 @@ pub fn open_call(
         ≡ open_row setup.now kernel (with_vpes_parks_outs vpes.old.rows park.old outs.old.boxes s)
         vpe dst name }
     ensures ours { vpes.new.ours ≡ vpes.old.ours }
-    ensures boxes { HasBoxes setup.now outs.new }
-    ensures spare { outs.old.spare ≤ outs.new.spare + 1 }
+    ensures left { HasSent setup.now outs.old outs.new }
 {
     if let Some(code) = open_refusal(setup, kernel, vpe, dst, name, vpes) {
         return Outcome::answered(code);
@@ -136,8 +132,7 @@ pub fn offer_call(
     requires declared { is_declared setup.now vpe ≡ true }
     requires session { IfSome (own (owning caps.now.caps vpes.old.rows no_side) vpe session)
         (λ c. IsSoundObject setup.now c.object) }
-    requires boxes { HasBoxes setup.now outs.old }
-    requires spare { 0 < outs.old.spare }
+    requires sends { CanSend setup.now outs.old }
     ensures row { (s : Side) →
         record {
           side = with_caps_vpes_parks_outs caps.now.caps vpes.new.rows park.new outs.new.boxes s;
@@ -147,8 +142,7 @@ pub fn offer_call(
         (with_caps_vpes_parks_outs caps.now.caps vpes.old.rows park.old outs.old.boxes s) vpe dst
         session index }
     ensures ours { vpes.new.ours ≡ vpes.old.ours }
-    ensures boxes { HasBoxes setup.now outs.new }
-    ensures spare { outs.old.spare ≤ outs.new.spare + 1 }
+    ensures left { HasSent setup.now outs.old outs.new }
 {
     if let Some(code) = offer_refusal(setup, kernel, vpe, dst, session, caps, vpes) {
         return Outcome::answered(code);

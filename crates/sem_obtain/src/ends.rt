@@ -6,7 +6,7 @@ ghost use Rattle.sem_msg.specs.declared.state.Ask.TheVariants.{Obtain as ObtainA
 ghost use Rattle.sem_msg.specs.Codes.{code_number};
 ghost use Rattle.sem_msg.specs.Lookups.{place_owner as place_owner_spec};
 ghost use Rattle.sem_msg.specs.Message.{Fits, IsRefusal};
-ghost use Rattle.sem_msg.specs.Outboxes.{box_for, with_box, HasBoxes};
+ghost use Rattle.sem_msg.specs.Outboxes.{CanSend, HasSent, box_for, with_box};
 ghost use Rattle.sem_vpe.specs.VpeTable.{AreOurs, IsOurs};
 ghost use Rattle.sem_machine.specs.Asks.{ask_refused, call_refused};
 ghost use Rattle.sem_machine.specs.Sides.{Side};
@@ -33,13 +33,11 @@ fn refusal(place: Place, code: Code) -> Message
 pub fn send_refusal(setup: &Setup, place: Place, code: Code, outs: &mut Outboxes)
     requires refusal { IsRefusal (code_number code) }
     requires owner { place_owner_spec setup.now place < setup.now.kernels }
-    requires boxes { HasBoxes setup.now outs.old }
-    requires spare { 0 < outs.old.spare }
+    requires sends { CanSend setup.now outs.old }
     ensures sent { let to = place_owner_spec setup.now place in
         outs.new.boxes ≡ with_box outs.old.boxes to (box_for outs.old.boxes to
         ++ ObtainNo place (code_number code) ∷ []) }
-    ensures boxes { HasBoxes setup.now outs.new }
-    ensures spare { outs.old.spare ≤ outs.new.spare + 1 }
+    ensures left { HasSent setup.now outs.old outs.new }
 {
     outs.send(setup.place_owner(place), refusal(place, code));
 }
@@ -73,15 +71,13 @@ pub fn refuse_ask(
     requires home { AreOurs setup.now kernel vpes.old }
     requires refusal { IsRefusal (code_number code) }
     requires owner { place_owner_spec setup.now place < setup.now.kernels }
-    requires boxes { HasBoxes setup.now outs.old }
-    requires spare { 0 < outs.old.spare }
+    requires sends { CanSend setup.now outs.old }
     ensures row { (target : Target) (s : Side) →
         with_vpes_parks_outs vpes.new.rows park.new outs.new.boxes s
         ≡ ask_refused setup.now kernel code (ObtainAsk place target)
         (with_vpes_parks_outs vpes.old.rows park.old outs.old.boxes s) }
     ensures ours { vpes.new.ours ≡ vpes.old.ours }
-    ensures boxes { HasBoxes setup.now outs.new }
-    ensures spare { outs.old.spare ≤ outs.new.spare + 1 }
+    ensures left { HasSent setup.now outs.old outs.new }
 {
     if setup.kernel_of(place.vpe) == kernel {
         refuse_call(place.vpe, code.number(), vpes, park);

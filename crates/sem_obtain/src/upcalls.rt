@@ -9,7 +9,7 @@ ghost use Rattle.sem_msg.specs.declared.state.Ask.TheVariants.{Obtain as ObtainA
 ghost use Rattle.sem_msg.specs.Lookups.{kernel_of as kernel_of_spec, owner_of as owner_of_spec};
 ghost use Rattle.sem_msg.specs.Lookups.{place_owner as place_owner_spec};
 ghost use Rattle.sem_msg.specs.Message.{Fits, IsValidTarget};
-ghost use Rattle.sem_msg.specs.Outboxes.{HasBoxes};
+ghost use Rattle.sem_msg.specs.Outboxes.{CanSend, HasSent};
 ghost use Rattle.sem_msg.specs.ParkedStates.{state_of};
 ghost use Rattle.sem_vpe.specs.VpeTable.{AreOurs, IsOurs};
 ghost use Rattle.sem_machine.specs.Sides.{Side, no_side};
@@ -53,8 +53,7 @@ pub fn obtain_upcall(
         (IsGivable caps.old) }
     requires free { IsUnusedNumber caps.old park.old place }
     requires spare { 0 < caps.old.spare }
-    requires boxes { HasBoxes setup.now outs.old }
-    requires messages { 0 < outs.old.spare }
+    requires sends { CanSend setup.now outs.old }
     ensures row { (s : Side) →
         record {
           side = with_caps_vpes_parks_outs caps.new.caps vpes.new.rows park.new outs.new.boxes s;
@@ -64,8 +63,7 @@ pub fn obtain_upcall(
         (with_caps_vpes_parks_outs caps.old.caps vpes.old.rows park.old outs.old.boxes s) }
     ensures ours { vpes.new.ours ≡ vpes.old.ours }
     ensures spare { caps.old.spare ≤ caps.new.spare + 1 }
-    ensures boxes { HasBoxes setup.now outs.new }
-    ensures messages { outs.old.spare ≤ outs.new.spare + 1 }
+    ensures left { HasSent setup.now outs.old outs.new }
 {
     match answer(setup, kernel, vpe, place, park) {
         Consent::Dropped => Outcome::asked(place.vpe, Consent::Dropped, None),
@@ -121,8 +119,7 @@ fn consent(
     requires free { (kind : Kind) → kernel_of_spec setup.now place.vpe ≡ kernel →
         cap_of caps.old.caps (keyed_spec place kind) ≡ None }
     requires spare { 0 < caps.old.spare }
-    requires boxes { HasBoxes setup.now outs.old }
-    requires messages { 0 < outs.old.spare }
+    requires sends { CanSend setup.now outs.old }
     ensures row { (s : Side) →
         record {
           side = with_caps_vpes_parks_outs caps.new.caps vpes.new.rows park.new outs.new.boxes s;
@@ -132,8 +129,7 @@ fn consent(
         (with_caps_vpes_parks_outs caps.old.caps vpes.old.rows park.old outs.old.boxes s) }
     ensures ours { vpes.new.ours ≡ vpes.old.ours }
     ensures spare { caps.old.spare ≤ caps.new.spare + 1 }
-    ensures boxes { HasBoxes setup.now outs.new }
-    ensures messages { outs.old.spare ≤ outs.new.spare + 1 }
+    ensures left { HasSent setup.now outs.old outs.new }
 {
     if let Some(code) = source_refusal(setup, vpe, &target, caps, vpes) {
         refuse_ask(setup, kernel, place, code, vpes, park, outs);
@@ -179,16 +175,14 @@ fn give(
     requires child_room { caps.old.child_room ≡ Some parent }
     requires free { kernel_of_spec setup.now key.vpe ≡ kernel → cap_of caps.old.caps key ≡ None }
     requires spare { 0 < caps.old.spare }
-    requires boxes { HasBoxes setup.now outs.old }
-    requires messages { 0 < outs.old.spare }
+    requires sends { CanSend setup.now outs.old }
     ensures row { (s : Side) →
         with_caps_vpes_parks_outs caps.new.caps vpes.new.rows park.new outs.new.boxes s
         ≡ child_sent setup.now kernel parent key object
         (with_caps_vpes_parks_outs caps.old.caps vpes.old.rows park.old outs.old.boxes s) }
     ensures ours { vpes.new.ours ≡ vpes.old.ours }
     ensures spare { caps.old.spare ≤ caps.new.spare + 1 }
-    ensures boxes { HasBoxes setup.now outs.new }
-    ensures messages { outs.old.spare ≤ outs.new.spare + 1 }
+    ensures left { HasSent setup.now outs.old outs.new }
 {
     caps.link(parent, key);
     if setup.kernel_of(key.vpe) == kernel {

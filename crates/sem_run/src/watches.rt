@@ -31,7 +31,7 @@ impl Finding {
 impl Watch for Finding {
     type Subject = Question;
 
-    ghost subject = { λ f. question_of f };
+    ghost subject = { λ f. question_about f };
 
     ghost is_new = { λ f. IsNew f };
 

@@ -9,7 +9,7 @@ ghost use Rattle.sem_msg.specs.declared.state.Ask.TheVariants.{Delegate as Deleg
 ghost use Rattle.sem_msg.specs.Codes.{code_number};
 ghost use Rattle.sem_msg.specs.Lookups.{owner_of as owner_of_spec};
 ghost use Rattle.sem_msg.specs.Lookups.{place_owner as place_owner_spec};
-ghost use Rattle.sem_msg.specs.Outboxes.{HasBoxes};
+ghost use Rattle.sem_msg.specs.Outboxes.{CanSend, HasBoxes, HasSent};
 ghost use Rattle.sem_msg.specs.ParkedStates.{parked_as, state_of};
 ghost use Rattle.sem_msg.specs.declared.state.Parked.TheVariants.{Ready};
 ghost use Rattle.sem_msg.specs.VpeRows.{row};
@@ -66,15 +66,13 @@ fn end_ask(
 )
     requires home { AreOurs setup.now kernel vpes.old }
     requires asker { HasAsker setup.now ask.now }
-    requires boxes { HasBoxes setup.now outs.old }
-    requires spare { 0 < outs.old.spare }
+    requires sends { CanSend setup.now outs.old }
     ensures row { (s : Side) →
         with_vpes_parks_outs vpes.new.rows park.new outs.new.boxes s
         ≡ ask_ended setup.now kernel ask.now
         (with_vpes_parks_outs vpes.old.rows park.old outs.old.boxes s) }
     ensures ours { vpes.new.ours ≡ vpes.old.ours }
-    ensures boxes { HasBoxes setup.now outs.new }
-    ensures spare { outs.old.spare ≤ outs.new.spare + 1 }
+    ensures left { HasSent setup.now outs.old outs.new }
 {
     match ask {
         Ask::Obtain { place, .. } => end_obtain(setup, kernel, *place, vpes, park, outs),
@@ -93,15 +91,13 @@ fn end_obtain(
 )
     requires home { AreOurs setup.now kernel vpes.old }
     requires owner { place_owner_spec setup.now place < setup.now.kernels }
-    requires boxes { HasBoxes setup.now outs.old }
-    requires spare { 0 < outs.old.spare }
+    requires sends { CanSend setup.now outs.old }
     ensures row { (target : Target) (s : Side) →
         with_vpes_parks_outs vpes.new.rows park.new outs.new.boxes s
         ≡ ask_ended setup.now kernel (ObtainAsk place target)
         (with_vpes_parks_outs vpes.old.rows park.old outs.old.boxes s) }
     ensures ours { vpes.new.ours ≡ vpes.old.ours }
-    ensures boxes { HasBoxes setup.now outs.new }
-    ensures spare { outs.old.spare ≤ outs.new.spare + 1 }
+    ensures left { HasSent setup.now outs.old outs.new }
 {
     if setup.kernel_of(place.vpe) == kernel {
         end_obtain_here(place, vpes, park);
@@ -145,14 +141,12 @@ fn refuse(vpe: u16, park: &mut Park)
 // Answers the ask of a delegate: tells its kernel, or refuses the call here, if it waits.
 fn end_offer(setup: &Setup, kernel: u32, parent: Key, park: &mut Park, outs: &mut Outboxes)
     requires owner { owner_of_spec setup.now parent < setup.now.kernels }
-    requires boxes { HasBoxes setup.now outs.old }
-    requires spare { 0 < outs.old.spare }
+    requires sends { CanSend setup.now outs.old }
     ensures row { (object : ObjectOf) (sel : ℕ) (s : Side) →
         with_parks park.new (with_outs outs.new.boxes s)
         ≡ ask_ended setup.now kernel (DelegateAsk parent object sel)
         (with_parks park.old (with_outs outs.old.boxes s)) }
-    ensures boxes { HasBoxes setup.now outs.new }
-    ensures spare { outs.old.spare ≤ outs.new.spare + 1 }
+    ensures left { HasSent setup.now outs.old outs.new }
 {
     if setup.kernel_of(parent.vpe) != kernel {
         tell_owner(setup, parent, offer_refusal(parent), outs);

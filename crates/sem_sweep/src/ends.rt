@@ -2,7 +2,7 @@ ghost use Rattle.std.specs.Prelude.{◌≡◌, ◌<◌, ◌≤◌, ◌+◌, All,
 ghost use Rattle.sem_key.specs.declared.limits.TheConstants.{VPES};
 ghost use Rattle.sem_msg.specs.JobRows.{waiter_left};
 ghost use Rattle.sem_msg.specs.Lookups.{kernel_of as kernel_of_spec};
-ghost use Rattle.sem_msg.specs.Outboxes.{HasBoxes};
+ghost use Rattle.sem_msg.specs.Outboxes.{CanSend, HasBoxes, HasSent};
 ghost use Rattle.sem_msg.specs.ParkedStates.{state_of};
 ghost use Rattle.sem_msg.specs.VpeRows.{row};
 ghost use Rattle.sem_vpe.specs.VpeTable.{AreOurs};
@@ -57,14 +57,12 @@ pub fn end_vpe(
 fn end_call(setup: &Setup, vpe: u16, jobs: &mut Jobs, park: &mut Park, outs: &mut Outboxes)
     requires vpe { vpe < VPES }
     requires owes { CanOwe setup.now (state_of park.old vpe) }
-    requires boxes { HasBoxes setup.now outs.old }
-    requires spare { 0 < outs.old.spare }
+    requires sends { CanSend setup.now outs.old }
     ensures row { (s : Side) →
         with_jobs jobs.new.jobs jobs.new.next (with_parks park.new (with_outs outs.new.boxes s))
         ≡ call_taken setup.now vpe
         (with_jobs jobs.old.jobs jobs.old.next (with_parks park.old (with_outs outs.old.boxes s))) }
-    ensures boxes { HasBoxes setup.now outs.new }
-    ensures spare { outs.old.spare ≤ outs.new.spare + 1 }
+    ensures left { HasSent setup.now outs.old outs.new }
     ensures job_spare { jobs.new.spare ≡ jobs.old.spare }
     ensures next { jobs.new.next ≡ jobs.old.next }
     ensures count { length jobs.new.jobs ≡ length jobs.old.jobs }

@@ -6,7 +6,7 @@ ghost use Rattle.sem_msg.specs.declared.code.Code.TheVariants.{Dead};
 ghost use Rattle.sem_msg.specs.Codes.{code_number};
 ghost use Rattle.sem_msg.specs.Lookups.{owner_of as owner_of_spec};
 ghost use Rattle.sem_msg.specs.Message.{Fits};
-ghost use Rattle.sem_msg.specs.Outboxes.{HasBoxes, box_for, with_box};
+ghost use Rattle.sem_msg.specs.Outboxes.{CanSend, HasBoxes, box_for, with_box};
 
 use sem_key::{Key, Place};
 use sem_msg::{Code, Message, Outboxes, Setup};
@@ -69,8 +69,7 @@ pub fn withdrawal(key: Key) -> Message
 pub fn tell(setup: &Setup, to: u32, message: Message, outs: &mut Outboxes)
     requires fits { Fits message }
     requires to { to < setup.now.kernels }
-    requires boxes { HasBoxes setup.now outs.old }
-    requires spare { 0 < outs.old.spare }
+    requires sends { CanSend setup.now outs.old }
     ensures sent { outs.new.boxes
         ≡ with_box outs.old.boxes to (box_for outs.old.boxes to ++ message ∷ []) }
     ensures boxes { HasBoxes setup.now outs.new }
@@ -85,8 +84,7 @@ pub fn tell(setup: &Setup, to: u32, message: Message, outs: &mut Outboxes)
 pub fn tell_owner(setup: &Setup, key: Key, message: Message, outs: &mut Outboxes)
     requires fits { Fits message }
     requires owner { owner_of_spec setup.now key < setup.now.kernels }
-    requires boxes { HasBoxes setup.now outs.old }
-    requires spare { 0 < outs.old.spare }
+    requires sends { CanSend setup.now outs.old }
     ensures sent { outs.new.boxes
         ≡ with_box outs.old.boxes (owner_of_spec setup.now key)
         (box_for outs.old.boxes (owner_of_spec setup.now key) ++ message ∷ []) }

@@ -243,7 +243,7 @@ fn tell_up(setup: &Setup, up: Option<Up>, jobs: &mut Jobs, outs: &mut Outboxes) 
         with_jobs jobs.new.jobs jobs.new.next (with_outs outs.new.boxes s)
         ≡ up_told up (with_jobs jobs.old.jobs jobs.old.next (with_outs outs.old.boxes s)) }
     ensures next { option_and_then (job_of jobs.new.jobs) result ≡ next_done up jobs.new.jobs }
-    ensures token_given_back { jobs.new ≡ record jobs.old { jobs = token_given_back up jobs.old.jobs } }
+    ensures told { jobs.new ≡ record jobs.old { jobs = token_given_back up jobs.old.jobs } }
     ensures there { IfSome result (λ j. IsSome (job_of jobs.new.jobs j)) }
     ensures boxes { HasBoxes setup.now outs.new }
     ensures spare { outs.old.spare ≤ outs.new.spare + up_messages up }

@@ -20,13 +20,13 @@ impl<N: RunName> Model for Pass<N> {
     ghost use Rattle.std.specs.Prelude.{◌≡◌, ◌<◌, ◌∷◌, []};
     ghost use Rattle.sem_turn.specs.Passes.{PassValue};
     ghost use Rattle.sem_turn.specs.Rule.{view as view_of, share};
-    ghost use Rattle.sem_turn.specs.Seats.{entries_of, placed_of, out_with};
+    ghost use Rattle.sem_turn.specs.Seats.{first_entries, placed_of, out_with};
 
     ghost Value = { PassValue };
 
     ghost view = { λ p. record {
       kernel = p.kernel;
-      entries = entries_of p.seat.me.0.shares;
+      entries = first_entries p.seat.me.0.shares;
       placed = placed_of p.seat.me.0.shares;
       taken = p.seat.me.0.taken;
     } };
@@ -36,7 +36,7 @@ impl<N: RunName> Model for Pass<N> {
         × (p.kernel < N.setup.kernels)
         × (p.seat.me ≡ (
           view_of
-              (share p.kernel (entries_of p.seat.me.0.shares) (placed_of p.seat.me.0.shares) ∷ [])
+              (share p.kernel (first_entries p.seat.me.0.shares) (placed_of p.seat.me.0.shares) ∷ [])
               p.seat.me.0.taken,
           out_with p.seat.me.0.taken,
         )) };

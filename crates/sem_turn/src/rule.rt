@@ -38,9 +38,9 @@ pub struct Take<N> {
 }
 
 impl<N: RunName> Play<Option<Fabric>, View> for Take<N> {
-    ghost use Rattle.sem_turn.specs.Steps.{Takes};
+    ghost use Rattle.sem_turn.specs.Steps.{TakesOut};
 
-    ghost then = { Takes N.setup };
+    ghost then = { TakesOut N.setup };
 }
 
 /// The step that gives back.

@@ -24,13 +24,13 @@ pub struct Vpes {
 
 impl Model for Vpes {
     ghost use Rattle.sem_vpe.specs.VpeTable.{VpeTable, IsVpeTable};
-    ghost use Rattle.sem_vpe.specs.Stored.{plain};
+    ghost use Rattle.sem_vpe.specs.Stored.{kept_table};
 
     ghost Value = { VpeTable };
 
-    ghost view = { λ s. plain s.places.items };
+    ghost view = { λ s. kept_table s.places.items };
 
-    ghost invariant = { λ s. IsVpeTable (plain s.places.items) };
+    ghost invariant = { λ s. IsVpeTable (kept_table s.places.items) };
 }
 
 impl Vpes {

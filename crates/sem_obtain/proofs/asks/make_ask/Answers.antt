@@ -1,4 +1,4 @@
-use Rattle.std.proofs.Common.{◌≡◌, ◌+◌, true, false, [], ◌∷◌, refl, sym, ◌∙◌, ap, arith}
+use Rattle.std.proofs.Common.{◌≡◌, ◌+◌, true, false, [], ◌∷◌, refl, sym, ◌∙◌, ap, arith, rules}
 use Rattle.std.specs.Prelude.{nat_le}
 use Rattle.std.proofs.lemmas.Bool.{true≢false}
 use Rattle.sem_key.specs.declared.limits.TheConstants.{NUMBERS}
@@ -25,13 +25,15 @@ unreachable-requires-in_default-promise c =
 
 pub send-requires-clause-to_kernel : goal.send-requires-clause-to_kernel
 send-requires-clause-to_kernel c =
-    omega (arith, c.declared_kernel-owner.ensures.below, c.requires.boxes)
+    omega (arith, c.declared_kernel-owner.ensures.below, c.requires.sends.boxes)
 
 -- there are as many outboxes after a message was sent
-pub returns-else-owner-kernel-clause-boxes : goal.returns-else-owner-kernel-clause-boxes
-returns-else-owner-kernel-clause-boxes c =
-    boxes-sent c.args.setup.now c.args.outs.now c.send.new.self c.declared_kernel-owner.result _ (omega (
+pub returns-else-owner-kernel-clause-left : goal.returns-else-owner-kernel-clause-left
+returns-else-owner-kernel-clause-left c = record {
+  boxes = boxes-sent c.args.setup.now c.args.outs.now c.send.new.self c.declared_kernel-owner.result _ (omega (
       arith,
       c.declared_kernel-owner.ensures.below,
-      c.requires.boxes,
-    )) c.send.ensures.boxes c.requires.boxes
+      c.requires.sends.boxes,
+    )) c.send.ensures.boxes c.requires.sends.boxes;
+  spare = search rules;
+}

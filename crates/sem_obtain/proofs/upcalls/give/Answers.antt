@@ -29,6 +29,9 @@ returns-then-kernel_of-kernel-clause-row c s =
     (with_caps_vpes_parks_outs c.args.caps.now.caps c.args.vpes.now.rows c.args.park.now c.args.outs.now.boxes s) here
 
 -- there are as many outboxes after a message was sent
-pub returns-else-kernel_of-kernel-clause-boxes : goal.returns-else-kernel_of-kernel-clause-boxes
-returns-else-kernel_of-kernel-clause-boxes c = boxes-sent c.args.setup.now c.args.outs.now c.send.new.self c.owner_of.result _
-    (omega (arith, c.owner_of.ensures, c.requires.owner, c.requires.boxes)) c.send.ensures.boxes c.requires.boxes
+pub returns-else-kernel_of-kernel-clause-left : goal.returns-else-kernel_of-kernel-clause-left
+returns-else-kernel_of-kernel-clause-left c = record {
+  boxes = boxes-sent c.args.setup.now c.args.outs.now c.send.new.self c.owner_of.result _
+    (omega (arith, c.owner_of.ensures, c.requires.owner, c.requires.sends.boxes)) c.send.ensures.boxes c.requires.sends.boxes;
+  spare = search rules;
+}

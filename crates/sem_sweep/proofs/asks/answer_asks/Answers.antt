@@ -42,8 +42,8 @@ loop-ask-preserved c =
       askers = subst (All (HasAsker T)) (sym left) (rest-all (HasAsker T) a asks c.in-Some.ensures.front c.loop-ask.invariant.askers);
       owes = subst (λ (t : Side). CanOwe T (state_of t.parks v)) (sym (c.end_ask.ensures.row no_side))
           (ended-owes T i v a (s1 no_side) c.loop-ask.invariant.owes);
-      boxes = c.end_ask.ensures.boxes;
-      spare = omega (arith, ap length left, less, c.end_ask.ensures.spare, c.loop-ask.invariant.spare);
+      boxes = c.end_ask.ensures.left.boxes;
+      spare = omega (arith, ap length left, less, c.end_ask.ensures.left.spare, c.loop-ask.invariant.spare);
       row = λ s. turn-row T i v a (s0 s) (s1 s) (s2 s) (taken s) (c.end_ask.ensures.row s) c.in-Some.ensures.front ∙ c.loop-ask.invariant.row s;
     }
 

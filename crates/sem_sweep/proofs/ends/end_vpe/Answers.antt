@@ -23,11 +23,14 @@ answer_asks-requires-clause-spare c =
     ap (λ (t : VpeTable). (row t.rows c.args.vpe).asks) c.end.ensures ∙ died-asks c.args.vpe c.args.vpes.now.rows in
     omega (arith, ap length same, c.requires.spare)
 
-pub end_call-requires-clause-spare : goal.end_call-requires-clause-spare
-end_call-requires-clause-spare c =
+pub end_call-requires-clause-sends : goal.end_call-requires-clause-sends
+end_call-requires-clause-sends c =
     let same : (row c.end.new.self.rows c.args.vpe).asks ≡ (row c.args.vpes.now.rows c.args.vpe).asks =
     ap (λ (t : VpeTable). (row t.rows c.args.vpe).asks) c.end.ensures ∙ died-asks c.args.vpe c.args.vpes.now.rows in
-    omega (arith, ap length same, c.requires.spare, c.answer_asks.ensures.spare)
+    record {
+      boxes = c.answer_asks.ensures.boxes;
+      spare = omega (arith, ap length same, c.requires.spare, c.answer_asks.ensures.spare);
+    }
 
 pub returns-clause-row : goal.returns-clause-row
 returns-clause-row c s =
@@ -49,4 +52,4 @@ pub returns-clause-spare : goal.returns-clause-spare
 returns-clause-spare c =
     let same : (row c.end.new.self.rows c.args.vpe).asks ≡ (row c.args.vpes.now.rows c.args.vpe).asks =
     ap (λ (t : VpeTable). (row t.rows c.args.vpe).asks) c.end.ensures ∙ died-asks c.args.vpe c.args.vpes.now.rows in
-    omega (arith, ap length same, c.answer_asks.ensures.spare, c.end_call.ensures.spare)
+    omega (arith, ap length same, c.answer_asks.ensures.spare, c.end_call.ensures.left.spare)

@@ -4,5 +4,5 @@ use Rattle.sem_sweep.proofs.messages.tell.Goals as goal
 
 -- there are as many outboxes after a message was sent
 pub returns-clause-boxes : goal.returns-clause-boxes
-returns-clause-boxes c = boxes-sent c.args.setup.now c.args.outs.now c.send.new.self c.args.to _ (omega (arith, c.requires.to, c.requires.boxes))
-    c.send.ensures.boxes c.requires.boxes
+returns-clause-boxes c = boxes-sent c.args.setup.now c.args.outs.now c.send.new.self c.args.to _ (omega (arith, c.requires.to, c.requires.sends.boxes))
+    c.send.ensures.boxes c.requires.sends.boxes
