@@ -1,6 +1,6 @@
 // How many capabilities the jobs have marked, in groups of jobs. The ids of a group have the same
 // rest, so jobs that are opened one after the other are of different groups.
-ghost use Rattle.std.specs.Prelude.{◌≡◌, ◌^◌, ◌+◌, ◌-◌, ◌<◌, ◌≤◌, length, vec_len, IfOk, IfSome};
+ghost use Rattle.std.specs.Prelude.{◌≡◌, ◌^◌, ◌+◌, ◌-◌, ◌<◌, ◌≤◌, vec_len, IfOk, IfSome};
 ghost use Rattle.std.specs.Prelude.{get_or, set, replicate};
 ghost use Rattle.sem_caps.specs.Stored.{group_of as group_of_spec, mark_groups, with_mark_counted};
 ghost use Rattle.sem_caps.specs.Stored.{without_mark};

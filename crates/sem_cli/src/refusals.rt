@@ -1,7 +1,7 @@
 // The lines that tell why a report is refused. If memory is refused, each of these functions may
 // have appended a part.
-ghost use Rattle.std.specs.Prelude.{◌≡◌, ◌++◌, ◌∷◌, [], codes, decimal, OnOk};
-ghost use Rattle.sem_cli.specs.Refusals.{bad_line, bad_entry, replayed_text, differing_line};
+ghost use Rattle.std.specs.Prelude.{◌≡◌, ◌++◌, codes, decimal, OnOk};
+ghost use Rattle.sem_cli.specs.Refusals.{bad_line, replayed_text, differing_line};
 ghost use Rattle.sem_cli.specs.Refusals.{going_on_line};
 
 use crate::messages::push_fault;

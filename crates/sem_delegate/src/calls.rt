@@ -1,4 +1,4 @@
-ghost use Rattle.std.specs.Prelude.{◌≡◌, ◌<◌, ◌≤◌, ◌+◌, true, IfSome};
+ghost use Rattle.std.specs.Prelude.{◌≡◌, ◌<◌, true, IfSome};
 ghost use Rattle.sem_key.specs.declared.limits.TheConstants.{VPES};
 ghost use Rattle.sem_key.specs.Capability.{capability_of};
 ghost use Rattle.sem_msg.specs.Lookups.{is_declared, kernel_of as kernel_of_spec};
@@ -6,7 +6,7 @@ ghost use Rattle.sem_msg.specs.Message.{IsDelegable};
 ghost use Rattle.sem_msg.specs.Outboxes.{CanSend, HasSent};
 ghost use Rattle.sem_vpe.specs.VpeTable.{AreOurs};
 ghost use Rattle.sem_machine.specs.Sides.{Side, no_side, own};
-ghost use Rattle.sem_machine.specs.Steps.{unshown};
+ghost use Rattle.sem_machine.specs.Steps.{step_of, unshown};
 ghost use Rattle.sem_machine.specs.Calls.{delegate_row, offer_made};
 ghost use Rattle.sem_machine.specs.Stores.{owning, with_caps_vpes_parks_outs, with_vpes_parks_outs};
 ghost use Rattle.sem_delegate.specs.Delegating.{IsOfKind};
@@ -39,10 +39,8 @@ pub fn delegate_call(
     requires valid { IfSome (own (owning caps.now.caps vpes.old.rows no_side) vpe src) IsOfKind }
     requires sends { CanSend setup.now outs.old }
     ensures row { (s : Side) →
-        record {
-          side = with_caps_vpes_parks_outs caps.now.caps vpes.new.rows park.new outs.new.boxes s;
-          outcome = result;
-        }
+        step_of result
+        (with_caps_vpes_parks_outs caps.now.caps vpes.new.rows park.new outs.new.boxes s)
         ≡ delegate_row setup.now kernel
         (with_caps_vpes_parks_outs caps.now.caps vpes.old.rows park.old outs.old.boxes s) vpe src
         other dst }

@@ -5,7 +5,7 @@ ghost use Rattle.sem_msg.specs.declared.state.Ask.TheVariants.{Delegate as Deleg
 ghost use Rattle.sem_msg.specs.Lookups.{is_declared, kernel_of as kernel_of_spec};
 ghost use Rattle.sem_vpe.specs.VpeTable.{IsOurs};
 ghost use Rattle.sem_machine.specs.Sides.{Side, no_side};
-ghost use Rattle.sem_machine.specs.Steps.{asking, first_code};
+ghost use Rattle.sem_machine.specs.Steps.{asking, first_code, step_of};
 ghost use Rattle.sem_machine.specs.Calls.{destination_tests};
 ghost use Rattle.sem_machine.specs.Stores.{IsNextFree, installing, with_vpes};
 ghost use Rattle.sem_machine.specs.Upcalls.{ask_decided, delegate_here, parent_tests};
@@ -39,7 +39,7 @@ pub fn decide_here(
     requires child_room { HasRoomFor caps.old parent }
     requires spare { 0 < caps.old.spare }
     ensures row { (s : Side) →
-        record { side = installing caps.new.caps vpes.new.rows park.new s; outcome = result }
+        step_of result (installing caps.new.caps vpes.new.rows park.new s)
         ≡ ask_decided setup.now kernel vpe (DelegateAsk parent object sel)
         (installing caps.old.caps vpes.old.rows park.old s) }
     ensures ours { vpes.new.ours ≡ vpes.old.ours }
@@ -79,7 +79,7 @@ fn take_child(
     requires child_room { HasRoomFor caps.old parent }
     requires spare { 0 < caps.old.spare }
     ensures row { (s : Side) →
-        record { side = installing caps.new.caps vpes.new.rows park.new s; outcome = result }
+        step_of result (installing caps.new.caps vpes.new.rows park.new s)
         ≡ asking parent.vpe Yes
         (delegate_here setup.now vpe parent object sel
         (installing caps.old.caps vpes.old.rows park.old s)) }

@@ -1,5 +1,5 @@
 // The messages of a delegation; all of them fit.
-ghost use Rattle.std.specs.Prelude.{◌≡◌, ◌<◌, ◌≤◌, ◌+◌, [], ◌∷◌, ◌++◌};
+ghost use Rattle.std.specs.Prelude.{◌≡◌, ◌<◌, ◌+◌, [], ◌∷◌, ◌++◌};
 ghost use Rattle.sem_key.specs.declared.limits.TheConstants.{VPES};
 ghost use Rattle.sem_key.specs.ObjectRanges.{IsValidObject, object_kind};
 ghost use Rattle.sem_msg.specs.declared.message.Message.TheVariants.{Ack, DelegateNo};

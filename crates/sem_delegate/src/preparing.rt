@@ -5,7 +5,7 @@ ghost use Rattle.sem_msg.specs.Lookups.{owner_of as owner_of_spec};
 ghost use Rattle.sem_msg.specs.Outboxes.{CanSend, HasSent};
 ghost use Rattle.sem_vpe.specs.VpeTable.{IsOurs};
 ghost use Rattle.sem_machine.specs.Sides.{Side, no_side};
-ghost use Rattle.sem_machine.specs.Steps.{first_code, unshown};
+ghost use Rattle.sem_machine.specs.Steps.{first_code, step_of, unshown};
 ghost use Rattle.sem_machine.specs.Calls.{destination_tests};
 ghost use Rattle.sem_machine.specs.Stores.{with_vpes};
 ghost use Rattle.sem_machine.specs.Upcalls.{ask_decided, delegate_prepared};
@@ -37,7 +37,7 @@ pub fn decide_elsewhere(
     requires sends { CanSend setup.now outs.old }
     requires pendings_spare { 0 < pendings.old.spare }
     ensures row { (s : Side) →
-        record { side = preparing vpes.new pendings.new outs.new s; outcome = result }
+        step_of result (preparing vpes.new pendings.new outs.new s)
         ≡ ask_decided setup.now kernel vpe (DelegateAsk parent object sel)
         (preparing vpes.old pendings.old outs.old s) }
     ensures ours { vpes.new.ours ≡ vpes.old.ours }

@@ -1,4 +1,4 @@
-ghost use Rattle.std.specs.Prelude.{◌≡◌, ◌<◌, ◌≤◌, ◌+◌};
+ghost use Rattle.std.specs.Prelude.{◌≡◌, ◌<◌};
 ghost use Rattle.sem_key.specs.declared.limits.TheConstants.{VPES};
 ghost use Rattle.sem_key.specs.CapList.{cap_of};
 ghost use Rattle.sem_msg.specs.Lookups.{owner_of as owner_of_spec};
@@ -6,6 +6,7 @@ ghost use Rattle.sem_msg.specs.Outboxes.{CanSend, HasSent};
 ghost use Rattle.sem_msg.specs.ParkedStates.{state_of};
 ghost use Rattle.sem_msg.specs.Setup.{Setup as SetupOf};
 ghost use Rattle.sem_machine.specs.Sides.{Side};
+ghost use Rattle.sem_machine.specs.Steps.{step_of};
 ghost use Rattle.sem_machine.specs.Resumes.{delegate_resumed, resume_row};
 ghost use Rattle.sem_machine.specs.Stores.{with_caps, with_outs, with_parks};
 ghost use Rattle.sem_delegate.specs.Delegating.{CanGrant, HasCode, HasRoomFor, resuming};
@@ -31,7 +32,7 @@ pub fn delegate_resume(
     requires waits { CanGrant setup.now caps.old (state_of park.old vpe) }
     requires sends { CanSend setup.now outs.old }
     ensures row { (s : Side) →
-        record { side = resuming caps.new park.new outs.new s; outcome = result }
+        step_of result (resuming caps.new park.new outs.new s)
         ≡ resume_row setup.now (resuming caps.old park.old outs.old s) vpe }
     ensures left { HasSent setup.now outs.old outs.new }
     ensures caps_spare { caps.new.spare ≡ caps.old.spare }
@@ -50,7 +51,7 @@ fn grant(setup: &Setup, parent: Key, key: Key, caps: &mut Caps, outs: &mut Outbo
     requires owner { owner_of_spec setup.now key < setup.now.kernels }
     requires sends { CanSend setup.now outs.old }
     ensures row { (s : Side) →
-        record { side = with_caps caps.new.caps (with_outs outs.new.boxes s); outcome = result }
+        step_of result (with_caps caps.new.caps (with_outs outs.new.boxes s))
         ≡ delegate_resumed setup.now parent key (cap_of caps.old.caps parent)
         (with_caps caps.old.caps (with_outs outs.old.boxes s)) }
     ensures left { HasSent setup.now outs.old outs.new }
@@ -76,7 +77,7 @@ pub fn ready_resume(vpe: u16, park: &mut Park) -> Outcome
     requires vpe { vpe < VPES }
     requires ready { HasCode (state_of park.old vpe) }
     ensures row { (T : SetupOf) (s : Side) →
-        record { side = with_parks park.new s; outcome = result }
+        step_of result (with_parks park.new s)
         ≡ resume_row T (with_parks park.old s) vpe }
 {
     let state = park.state(vpe);

@@ -5,6 +5,7 @@ ghost use Rattle.sem_msg.specs.Lookups.{owner_of as owner_of_spec};
 ghost use Rattle.sem_msg.specs.Outboxes.{CanSend, HasSent};
 ghost use Rattle.sem_vpe.specs.VpeTable.{AreOurs};
 ghost use Rattle.sem_machine.specs.Sides.{Side};
+ghost use Rattle.sem_machine.specs.Steps.{step_of};
 ghost use Rattle.sem_machine.specs.Stores.{IsNextFree};
 ghost use Rattle.sem_machine.specs.Upcalls.{ask_decided};
 ghost use Rattle.sem_delegate.specs.Delegating.{HasRoomFor, consenting};
@@ -46,10 +47,7 @@ pub fn delegate_upcall(
     requires caps_spare { 0 < caps.old.spare }
     requires pendings_spare { 0 < pendings.old.spare }
     ensures row { (s : Side) →
-        record {
-          side = consenting caps.new vpes.new park.new pendings.new outs.new s;
-          outcome = result;
-        }
+        step_of result (consenting caps.new vpes.new park.new pendings.new outs.new s)
         ≡ ask_decided setup.now kernel vpe (DelegateAsk parent object sel)
         (consenting caps.old vpes.old park.old pendings.old outs.old s) }
     ensures ours { vpes.new.ours ≡ vpes.old.ours }

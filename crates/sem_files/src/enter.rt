@@ -1,5 +1,5 @@
 // Enters an accepted line into the tables.
-ghost use Rattle.std.specs.Prelude.{◌≡◌, ℕ, List, [], ◌∷◌, ◌++◌, ◌&&◌, nat_le, false, None};
+ghost use Rattle.std.specs.Prelude.{◌≡◌, List, [], ◌∷◌, ◌++◌, ◌&&◌, nat_le, false, None};
 ghost use Rattle.std.specs.Prelude.{slice_index_or, OnOk};
 ghost use Rattle.sem_files.specs.declared.files.Command.{Command as CommandData};
 ghost use Rattle.sem_files.specs.declared.lines.FileLine.TheVariants.{File, Client, Do};

@@ -1,5 +1,5 @@
 // The files that the handles of a client have open.
-ghost use Rattle.std.specs.Prelude.{◌≡◌, ◌≢◌, ℕ, ◌≤◌, List, [], ◌∷◌, ◌++◌, None, slice_index_or};
+ghost use Rattle.std.specs.Prelude.{◌≡◌, ℕ, ◌≤◌, List, [], ◌∷◌, ◌++◌, None, slice_index_or};
 ghost use Rattle.std.specs.Prelude.{replicate};
 ghost use Rattle.sem_files.specs.declared.files.Command.{Command as CommandData};
 ghost use Rattle.sem_files.specs.Files.{handle_of};

@@ -1,10 +1,10 @@
 -- Two clients and a file. The second shares it and closes it while the share is on its way to the
 -- other kernel; then the first writes. So the laws of file commands are not empty.
-use Rattle.std.specs.Prelude.{◌≡◌, ℕ, Bool, true, ◌&&◌, ◌==◌, List, [], ◌∷◌, length, slice_get, Option, Some, None}
+use Rattle.std.specs.Prelude.{◌≡◌, ℕ, Bool, true, ◌&&◌, ◌==◌, List, [], ◌∷◌, length, slice_get, Option, Some}
 use Rattle.std.specs.Prelude.{option_map}
 use Rattle.std.specs.List.{list_all}
-use Rattle.sem_machine.specs.Prelude.{MemKind, KeyName, Revoke, Write as WriteCall, Ack, Calls, Fetch, Handle, Upcall}
-use Rattle.sem_machine.specs.Prelude.{Resume, Flush, Event, Detail, Called, Carried, Reply, Entry, Setup, replies}
+use Rattle.sem_machine.specs.Prelude.{Revoke, Write as WriteCall, Ack, Calls, Fetch, Handle, Upcall}
+use Rattle.sem_machine.specs.Prelude.{Resume, Flush, Event, Detail, Called, Carried, Entry, Setup, replies}
 use Rattle.sem_machine.specs.Prelude.{World, event, start, after, entry_of, is_enabled}
 use Rattle.sem_files.specs.declared.files.FileAct.TheVariants.{OpenFile, Write, Share, Close}
 use Rattle.sem_files.specs.Files.{Files}

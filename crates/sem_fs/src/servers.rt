@@ -1,5 +1,5 @@
 // What the server holds and offers.
-ghost use Rattle.std.specs.Prelude.{◌≡◌, ◌<◌, ◌≤◌, ◌++◌, ◌∷◌, List, map, All, IfOk, OnOk};
+ghost use Rattle.std.specs.Prelude.{◌≡◌, ◌<◌, ◌≤◌, ◌++◌, ◌∷◌, map, All, IfOk, OnOk};
 ghost use Rattle.sem_files.specs.Compiled.{below, extent_number, extents, service_root};
 ghost use Rattle.sem_files.specs.Compiled.{root_of_extent as root_of_extent_spec};
 ghost use Rattle.sem_files.specs.Compiled.{offer_of_extent as offer_of_extent_spec};

@@ -1,4 +1,4 @@
-ghost use Rattle.std.specs.Prelude.{◌≡◌, ℕ, ◌+◌, ◌<◌, ◌≤◌, ◌↔◌, List, [], length, take, min};
+ghost use Rattle.std.specs.Prelude.{◌≡◌, ℕ, ◌<◌, ◌≤◌, ◌↔◌, List, [], length, take, min};
 ghost use Rattle.std.specs.Prelude.{vec_len, vec_capacity, ◌-◌, ◌⊎◌, if◌then◌else◌, Contains};
 ghost use Rattle.std.specs.Prelude.{Option, Some, None, IfOk, IsErr, OnErr, OnOk};
 ghost use Rattle.std.specs.Result.{is_err};

@@ -1,5 +1,5 @@
 // A source and a sink that never fail.
-ghost use Rattle.std.specs.Prelude.{◌≡◌, ℕ, ◌+◌, ◌<◌, ◌≤◌, [], length, take, drop, min, vec_len};
+ghost use Rattle.std.specs.Prelude.{◌≡◌, ◌+◌, ◌<◌, ◌≤◌, [], length, take, drop, min, vec_len};
 ghost use Rattle.std.specs.Prelude.{◌-◌, Some, None, IfOk, IsOk};
 ghost use Rattle.sem_io.specs.SinkBytes.{Appends};
 ghost use Rattle.sem_io.specs.SourceBytes.{Takes};

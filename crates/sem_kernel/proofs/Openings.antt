@@ -17,14 +17,12 @@ use Rattle.sem_msg.specs.declared.state.Parked.TheVariants.{RevokeWait}
 use Rattle.sem_msg.specs.declared.state.Up.{Up}
 use Rattle.sem_msg.specs.declared.state.Up.TheVariants.{Local, Remote}
 use Rattle.sem_msg.specs.Message.{IsJobId}
-use Rattle.sem_msg.specs.declared.entry.Outcome.{Outcome}
 use Rattle.sem_msg.specs.Rows.{JobRow}
 use Rattle.sem_msg.specs.JobRows.{job_of, count_lowered}
 use Rattle.sem_msg.specs.ParkedStates.{is_ready_with}
 use Rattle.sem_msg.specs.Setup.{Setup, IsSetup}
 use Rattle.sem_msg.specs.Lookups.{kernel_of}
 use Rattle.sem_machine.specs.Sides.{Side, cap, own, parked, parked_as}
-use Rattle.sem_machine.specs.Steps.{Step}
 use Rattle.sem_machine.specs.Revokes.{HasOwner, opened}
 use Rattle.sem_machine.specs.Sound.{IsNamed, IsSound, IsSoundBut, IsSoundCall, IsSoundUp, bit, kept, one_if, ids_owed, ids_paid}
 use Rattle.sem_machine.proofs.Weighing.{weigh-put}
@@ -118,10 +116,6 @@ module _ (T : Setup) (valid : IsSetup T) (i : ℕ) (few : i < T.kernels) where
             ) (λ a b e lt within. absurd (omega (arith, lt, within))) (λ w none. absurd (Contains-nil w none)) (slack-of T valid i few s is) in
             subst (λ n. IsSoundBut T i None None None (Some n) 0 t) (sym same)
             (subst (IsSoundBut T i None None None (Some s.next_job) 0) (sym (is_opened refl)) middle)
-
--- a step with that side and outcome
-abbrev pub step_of : Side → Outcome → Step
-step_of s o = record { side = s; outcome = o }
 
 module _ (T : Setup) (valid : IsSetup T) (i : ℕ) (few : i < T.kernels) (s : Side) (is : IsSound T i s) where
   -- the job that marks a capability is there

@@ -2,7 +2,7 @@
 use Rattle.std.specs.Prelude.{◌≡◌, ℕ, false}
 use Rattle.sem_machine.specs.Prelude.{Message, Setup, kernel_of}
 use Rattle.sem_msg.specs.declared.entry.Outcome.{Outcome}
-use Rattle.sem_machine.specs.Steps.{Step}
+use Rattle.sem_machine.specs.Steps.{Step, step_of}
 use Rattle.sem_machine.specs.Handles.{handle_row, is_stray}
 use Rattle.sem_kernel.specs.declared.stores.Stores.{Stores}
 use Rattle.sem_kernel.specs.KernelStores.{side_of, AreStoresOf, AreSound}
@@ -14,7 +14,7 @@ pub record CanCall (T : Setup) (i v : ℕ) (x : Stores) : Type 0 where
 
 -- the stores y of kernel i and the outcome are those of the step
 pub record HasCalled (T : Setup) (i : ℕ) (y : Stores) (o : Outcome) (step : Step) : Type 0 where
-  pub row : ◌≡◌ {A = Step} (record { side = side_of y; outcome = o }) step
+  pub row : step_of o (side_of y) ≡ step
   pub stores : AreStoresOf T i y
 
 -- the stores x of kernel i are sound, and the message is no stray there

@@ -1,8 +1,7 @@
 // What an act of a kernel needs from the fabric.
-ghost use Rattle.std.specs.Prelude.{◌≡◌, ◌<◌, ◌&&◌, true};
+ghost use Rattle.std.specs.Prelude.{◌≡◌, ◌<◌, true};
 ghost use Rattle.sem_msg.specs.declared.event.Act.TheVariants.{Flush};
-ghost use Rattle.sem_machine.specs.Machine.{is_locally_enabled};
-ghost use Rattle.sem_kernel.specs.KernelValue.{is_timely, IsInput};
+ghost use Rattle.sem_kernel.specs.KernelValue.{IsInput};
 ghost use Rattle.sem_kernel.specs.Worlds.{is_passable as is_passable_spec, taken, fabric_moved};
 ghost use Rattle.sem_kernel.specs.Worlds.{NamesPeer, CanDo};
 

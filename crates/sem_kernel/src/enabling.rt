@@ -1,11 +1,10 @@
 // Which acts of a kernel are enabled, as far as its stores tell.
-ghost use Rattle.std.specs.Prelude.{◌≡◌, true, is_some, slice_get, length};
-ghost use Rattle.std.specs.Option.{option_map};
+ghost use Rattle.std.specs.Prelude.{◌≡◌, is_some, slice_get, length};
 ghost use Rattle.sem_msg.specs.Lookups.{kernel_of as kernel_of_spec, calls_of};
 ghost use Rattle.sem_machine.specs.Machine.{is_locally_enabled};
 ghost use Rattle.sem_machine.specs.Machine.{next_call as next_call_spec};
 ghost use Rattle.sem_machine.specs.Resumes.{can_resume as can_resume_spec};
-ghost use Rattle.sem_machine.specs.Sides.{is_alive, outbox, parked, row};
+ghost use Rattle.sem_machine.specs.Sides.{row};
 ghost use Rattle.sem_kernel.specs.KernelStores.{side_of, AreStoresOf, AreSound};
 ghost use Rattle.sem_kernel.specs.Listing.{AreVpeActs};
 

@@ -17,10 +17,13 @@ ghost use Rattle.sem_kernel.specs.Rooms.{is_revoking};
 use crate::stores::Stores;
 use sem_delegate::{ack, delegate_call, delegate_prepared, delegate_refused, delegate_request};
 use sem_msg::{Call, Code, Message, Outcome, Setup};
-use sem_obtain::{obtain_answer, obtain_call, obtain_refused, obtain_request, offer_call, open_call};
-use sem_obtain::{orphan, unlink};
-use sem_own::{Part, bind_call, credit_call, derive_call, gate_call, read_call, send_call};
-use sem_own::write_call;
+use sem_obtain::{
+    obtain_answer, obtain_call, obtain_refused, obtain_request, offer_call, open_call, orphan,
+    unlink,
+};
+use sem_own::{
+    Part, bind_call, credit_call, derive_call, gate_call, read_call, send_call, write_call,
+};
 
 impl Stores {
     // The VPE makes the call, which was counted and pays for a job.

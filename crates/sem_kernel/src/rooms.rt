@@ -4,7 +4,7 @@ ghost use Rattle.std.specs.Prelude.{OnErr};
 ghost use Rattle.std.specs.Option.{option_and_then};
 ghost use Rattle.sem_msg.specs.Lookups.{kernel_of as kernel_of_spec};
 ghost use Rattle.sem_machine.specs.Machine.{is_locally_enabled};
-ghost use Rattle.sem_machine.specs.Sides.{parked, row};
+ghost use Rattle.sem_machine.specs.Sides.{row};
 ghost use Rattle.sem_kernel.specs.KernelStores.{side_of, AreStoresOf, AreSound};
 ghost use Rattle.sem_kernel.specs.Rooms.{IsReady, HasGrown, HasSameStores, HasRoomToRevoke};
 ghost use Rattle.sem_kernel.specs.Rooms.{asked_parent as asked_parent_spec};

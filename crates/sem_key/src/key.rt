@@ -1,4 +1,4 @@
-ghost use Rattle.std.specs.Prelude.{◌≡◌, ◌↔◌, ℕ, Some, IfSome};
+ghost use Rattle.std.specs.Prelude.{◌≡◌, ◌↔◌, Some, IfSome};
 ghost use Rattle.sem_key.specs.KeyName.{KeyName, IsValidKey, kind_number};
 ghost use Rattle.sem_key.specs.KeyName.{kind_numbered as kind_numbered_spec, packed, key_eq};
 ghost use Rattle.sem_key.specs.PlaceName.{keyed as keyed_spec};

@@ -7,6 +7,7 @@ ghost use Rattle.sem_msg.specs.declared.state.Parked.TheVariants.{RevokeWait};
 ghost use Rattle.sem_msg.specs.JobRows.{job_of};
 ghost use Rattle.sem_msg.specs.Outboxes.{HasBoxes};
 ghost use Rattle.sem_machine.specs.Sides.{Side, no_side, own, parked_as};
+ghost use Rattle.sem_machine.specs.Steps.{step_of};
 ghost use Rattle.sem_machine.specs.Calls.{clear_row, revoke_row};
 ghost use Rattle.sem_machine.specs.Revokes.{begin, finished, opened};
 ghost use Rattle.sem_machine.specs.Stores.{owning};
@@ -43,11 +44,8 @@ pub fn revoke_call(
     requires marker { IfSome (own (owning caps.old.caps vpes.now.rows no_side) vpe sel)
         (λ c. IfSome c.mark (λ j. IsSome (job_of jobs.old.jobs j))) }
     ensures row { (s : Side) →
-        record {
-          side = finished setup.now kernel result.1
-              (revoking caps.new vpes.now dtus.new jobs.new park.new outs.new s);
-          outcome = result.0;
-        }
+        step_of result.0 (finished setup.now kernel result.1
+        (revoking caps.new vpes.now dtus.new jobs.new park.new outs.new s))
         ≡ revoke_row setup.now kernel
         (revoking caps.old vpes.now dtus.old jobs.old park.old outs.old s) vpe sel }
     ensures opened { IsSome result.1 → (c : Capability) →
@@ -99,11 +97,8 @@ pub fn clear_call(
 ) -> (Outcome, Option<u32>)
     requires { CanBegin setup.now kernel vpe caps.old vpes.now jobs.old outs.old scratch.old }
     ensures row { (s : Side) →
-        record {
-          side = finished setup.now kernel result.1
-              (revoking caps.new vpes.now dtus.new jobs.new park.new outs.new s);
-          outcome = result.0;
-        }
+        step_of result.0 (finished setup.now kernel result.1
+        (revoking caps.new vpes.now dtus.new jobs.new park.new outs.new s))
         ≡ clear_row setup.now kernel
         (revoking caps.old vpes.now dtus.old jobs.old park.old outs.old s) vpe sel }
     ensures opened { IsSome result.1 → (c : Capability) →

@@ -6,7 +6,7 @@ ghost use Rattle.sem_key.specs.CapList.{link_count};
 ghost use Rattle.sem_key.specs.Lists.{in_turn};
 ghost use Rattle.sem_key.specs.Region.{has_key, region, children_of, all_marked};
 ghost use Rattle.sem_caps.specs.CapStore.{IsCapStore};
-ghost use Rattle.sem_mark.specs.Walks.{Walk, is_unmarked_at as is_open_spec, children_at, unmarked_count};
+ghost use Rattle.sem_mark.specs.Walks.{is_unmarked_at as is_open_spec, children_at, unmarked_count};
 ghost use Rattle.sem_mark.specs.Walks.{reach as reach_spec};
 
 use sem_caps::Caps;

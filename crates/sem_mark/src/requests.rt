@@ -1,7 +1,7 @@
 ghost use Rattle.std.specs.Prelude.{◌≡◌, ◌+◌, ◌<◌, ◌≤◌, true, false, [], None, Some, All, IfSome};
 ghost use Rattle.std.specs.Prelude.{IsSome, IsSomeAnd, vec_capacity};
 ghost use Rattle.sem_key.specs.CapList.{cap_of, link_count};
-ghost use Rattle.sem_msg.specs.declared.message.Message.TheVariants.{RevokeDone, RevokeReq};
+ghost use Rattle.sem_msg.specs.declared.message.Message.TheVariants.{RevokeReq};
 ghost use Rattle.sem_msg.specs.declared.state.Up.TheVariants.{Remote};
 ghost use Rattle.sem_msg.specs.JobRows.{job_of};
 ghost use Rattle.sem_msg.specs.Lookups.{kernel_of as kernel_of_spec};

@@ -1,5 +1,5 @@
 // What runs tell of a range of addresses.
-ghost use Rattle.std.specs.Prelude.{◌≡◌, ◌+◌, ◌≤◌, ℕ, Option};
+ghost use Rattle.std.specs.Prelude.{◌≡◌, ◌+◌, ◌≤◌, Option};
 ghost use Rattle.sem_key.specs.declared.limits.TheConstants.{ADDRESSES};
 ghost use Rattle.sem_access.specs.LastWrites.{greater_with as greater_spec, looked};
 ghost use Rattle.sem_access.specs.Runs.{IsValidRun, AreRuns, entry_at};

@@ -3,7 +3,6 @@ pub mod Queues
 pub mod Pools
 pub mod Boxes
 pub mod Declared
-pub mod OneVpe
 pub mod Snocs
 pub mod Moves
 pub mod Agreeing

@@ -1,6 +1,5 @@
 ghost use Rattle.std.specs.Prelude.{◌≡◌, ◌<◌, true, option_copied, IfSome};
 ghost use Rattle.sem_key.specs.declared.limits.TheConstants.{VPES};
-ghost use Rattle.std.specs.List.{Contains};
 ghost use Rattle.sem_msg.specs.Setup.{IsVpeDecl};
 ghost use Rattle.sem_msg.specs.Fabric.{is_due as is_due_spec};
 ghost use Rattle.sem_msg.specs.Journal.{kill_number as kill_number_spec};

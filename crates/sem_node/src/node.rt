@@ -1,5 +1,5 @@
 // A kernel with what its threads share, and the bodies of these threads.
-ghost use Rattle.std.specs.Prelude.{◌≡◌, IfSome};
+ghost use Rattle.std.specs.Prelude.{IfSome};
 ghost use Rattle.sem_msg.specs.Fabric.{IsOwnAct};
 
 use crate::cell::{Caller, KernelCell, Progress};

@@ -1,5 +1,3 @@
-ghost use Rattle.std.specs.Prelude.{◌≡◌};
-
 use crate::desk::Desk;
 use sem_turn::{RunName, Turn};
 use std::sync::atomic::{AtomicBool, AtomicU64, Ordering};

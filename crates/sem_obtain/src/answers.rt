@@ -1,4 +1,4 @@
-ghost use Rattle.std.specs.Prelude.{◌≡◌, ◌≢◌, ℕ, ◌<◌, ◌≤◌, ◌+◌};
+ghost use Rattle.std.specs.Prelude.{◌≡◌, ◌≢◌, ℕ, ◌<◌};
 ghost use Rattle.sem_msg.specs.declared.message.Message.TheVariants.{ObtainNo, ObtainOk, ObtainReq};
 ghost use Rattle.sem_msg.specs.declared.message.Message.TheVariants.{Orphan};
 ghost use Rattle.sem_msg.specs.Lookups.{kernel_of as kernel_of_spec, owner_of as owner_of_spec};

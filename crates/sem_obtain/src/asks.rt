@@ -1,4 +1,4 @@
-ghost use Rattle.std.specs.Prelude.{◌≡◌, ◌<◌, ◌≤◌, ◌+◌, true, None};
+ghost use Rattle.std.specs.Prelude.{◌≡◌, true, None};
 ghost use Rattle.sem_msg.specs.declared.message.Message.TheVariants.{ObtainReq};
 ghost use Rattle.sem_msg.specs.Lookups.{is_declared, kernel_of as kernel_of_spec};
 ghost use Rattle.sem_msg.specs.Message.{Fits, IsValidTarget};

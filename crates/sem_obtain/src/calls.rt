@@ -1,4 +1,4 @@
-ghost use Rattle.std.specs.Prelude.{◌≡◌, ◌<◌, ◌≤◌, ◌+◌, true, IfSome};
+ghost use Rattle.std.specs.Prelude.{◌≡◌, true, IfSome};
 ghost use Rattle.sem_msg.specs.Lookups.{is_declared, kernel_of as kernel_of_spec};
 ghost use Rattle.sem_msg.specs.declared.message.Target.TheVariants.{Offer as OfferTarget};
 ghost use Rattle.sem_msg.specs.declared.message.Target.TheVariants.{Sel as SelTarget};
@@ -8,6 +8,7 @@ ghost use Rattle.sem_msg.specs.Message.{IsValidTarget};
 ghost use Rattle.sem_msg.specs.Outboxes.{CanSend, HasSent};
 ghost use Rattle.sem_vpe.specs.VpeTable.{AreOurs};
 ghost use Rattle.sem_machine.specs.Sides.{Side, no_side, own};
+ghost use Rattle.sem_machine.specs.Steps.{step_of};
 ghost use Rattle.sem_machine.specs.Sound.{IsSoundObject};
 ghost use Rattle.sem_machine.specs.Calls.{obtain_row, offer_row, open_row};
 ghost use Rattle.sem_machine.specs.Stores.{owning, with_caps_vpes_parks_outs, with_vpes_parks_outs};
@@ -39,10 +40,7 @@ pub fn obtain_call(
     requires declared { is_declared setup.now vpe ≡ true }
     requires sends { CanSend setup.now outs.old }
     ensures row { (s : Side) →
-        record {
-          side = with_vpes_parks_outs vpes.new.rows park.new outs.new.boxes s;
-          outcome = result;
-        }
+        step_of result (with_vpes_parks_outs vpes.new.rows park.new outs.new.boxes s)
         ≡ obtain_row setup.now kernel (with_vpes_parks_outs vpes.old.rows park.old outs.old.boxes s)
         vpe dst other src }
     ensures ours { vpes.new.ours ≡ vpes.old.ours }
@@ -83,10 +81,7 @@ pub fn open_call(
     requires declared { is_declared setup.now vpe ≡ true }
     requires sends { CanSend setup.now outs.old }
     ensures row { (s : Side) →
-        record {
-          side = with_vpes_parks_outs vpes.new.rows park.new outs.new.boxes s;
-          outcome = result;
-        }
+        step_of result (with_vpes_parks_outs vpes.new.rows park.new outs.new.boxes s)
         ≡ open_row setup.now kernel (with_vpes_parks_outs vpes.old.rows park.old outs.old.boxes s)
         vpe dst name }
     ensures ours { vpes.new.ours ≡ vpes.old.ours }
@@ -134,10 +129,8 @@ pub fn offer_call(
         (λ c. IsSoundObject setup.now c.object) }
     requires sends { CanSend setup.now outs.old }
     ensures row { (s : Side) →
-        record {
-          side = with_caps_vpes_parks_outs caps.now.caps vpes.new.rows park.new outs.new.boxes s;
-          outcome = result;
-        }
+        step_of result
+        (with_caps_vpes_parks_outs caps.now.caps vpes.new.rows park.new outs.new.boxes s)
         ≡ offer_row setup.now kernel
         (with_caps_vpes_parks_outs caps.now.caps vpes.old.rows park.old outs.old.boxes s) vpe dst
         session index }

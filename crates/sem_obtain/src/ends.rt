@@ -1,4 +1,4 @@
-ghost use Rattle.std.specs.Prelude.{◌≡◌, ◌<◌, ◌≤◌, ◌+◌, [], ◌∷◌, ◌++◌};
+ghost use Rattle.std.specs.Prelude.{◌≡◌, ◌<◌, ◌+◌, [], ◌∷◌, ◌++◌};
 ghost use Rattle.sem_key.specs.declared.limits.TheConstants.{VPES};
 ghost use Rattle.sem_msg.specs.declared.message.Message.TheVariants.{ObtainNo};
 ghost use Rattle.sem_msg.specs.declared.message.Target.{Target};

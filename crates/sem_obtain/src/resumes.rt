@@ -4,6 +4,7 @@ ghost use Rattle.sem_msg.specs.ParkedStates.{state_of};
 ghost use Rattle.sem_msg.specs.Setup.{Setup as SetupOf};
 ghost use Rattle.sem_vpe.specs.VpeTable.{IsOurs};
 ghost use Rattle.sem_machine.specs.Sides.{Side, installed};
+ghost use Rattle.sem_machine.specs.Steps.{step_of};
 ghost use Rattle.sem_machine.specs.Stores.{installing, with_caps, with_vpes};
 ghost use Rattle.sem_key.specs.CapList.{cap_of};
 ghost use Rattle.sem_machine.specs.Resumes.{resume_row};
@@ -24,7 +25,7 @@ pub fn obtain_resume(vpe: u16, caps: &mut Caps, vpes: &mut Vpes, park: &mut Park
     requires waits { CanEnd caps.old vpe (state_of park.old vpe) }
     requires spare { 0 < caps.old.spare }
     ensures row { (T : SetupOf) (s : Side) →
-        record { side = installing caps.new.caps vpes.new.rows park.new s; outcome = result }
+        step_of result (installing caps.new.caps vpes.new.rows park.new s)
         ≡ resume_row T (installing caps.old.caps vpes.old.rows park.old s) vpe }
     ensures ours { vpes.new.ours ≡ vpes.old.ours }
     ensures spare { caps.old.spare ≤ caps.new.spare + 1 }

@@ -13,6 +13,7 @@ ghost use Rattle.sem_msg.specs.Outboxes.{CanSend, HasSent};
 ghost use Rattle.sem_msg.specs.ParkedStates.{state_of};
 ghost use Rattle.sem_vpe.specs.VpeTable.{AreOurs, IsOurs};
 ghost use Rattle.sem_machine.specs.Sides.{Side, no_side};
+ghost use Rattle.sem_machine.specs.Steps.{step_of};
 ghost use Rattle.sem_machine.specs.Upcalls.{ask_decided, given as given_spec, given_here};
 ghost use Rattle.sem_machine.specs.Upcalls.{obtain_consent, source as source_spec};
 ghost use Rattle.sem_machine.specs.Stores.{installing, owning, with_caps_vpes_parks_outs};
@@ -55,10 +56,8 @@ pub fn obtain_upcall(
     requires spare { 0 < caps.old.spare }
     requires sends { CanSend setup.now outs.old }
     ensures row { (s : Side) →
-        record {
-          side = with_caps_vpes_parks_outs caps.new.caps vpes.new.rows park.new outs.new.boxes s;
-          outcome = result;
-        }
+        step_of result
+        (with_caps_vpes_parks_outs caps.new.caps vpes.new.rows park.new outs.new.boxes s)
         ≡ ask_decided setup.now kernel vpe (ObtainAsk place target)
         (with_caps_vpes_parks_outs caps.old.caps vpes.old.rows park.old outs.old.boxes s) }
     ensures ours { vpes.new.ours ≡ vpes.old.ours }
@@ -121,10 +120,8 @@ fn consent(
     requires spare { 0 < caps.old.spare }
     requires sends { CanSend setup.now outs.old }
     ensures row { (s : Side) →
-        record {
-          side = with_caps_vpes_parks_outs caps.new.caps vpes.new.rows park.new outs.new.boxes s;
-          outcome = record { asked = None; grant = result; cut = None; reply = None };
-        }
+        step_of (record { asked = None; grant = result; cut = None; reply = None })
+        (with_caps_vpes_parks_outs caps.new.caps vpes.new.rows park.new outs.new.boxes s)
         ≡ obtain_consent setup.now kernel vpe place target
         (with_caps_vpes_parks_outs caps.old.caps vpes.old.rows park.old outs.old.boxes s) }
     ensures ours { vpes.new.ours ≡ vpes.old.ours }

@@ -4,9 +4,7 @@ ghost use Rattle.std.specs.Option.{option_to_list};
 ghost use Rattle.sem_outcomes.specs.Codes.{code_of};
 ghost use Rattle.sem_msg.specs.Audits.{held_pairs};
 ghost use Rattle.sem_machine.specs.Schedules.{world_after};
-ghost use Rattle.sem_kernel.specs.Standing.{StandsAt};
-ghost use Rattle.sem_kernel.specs.KernelValue.{KernelValue};
-ghost use Rattle.sem_histories.specs.Outcomes.{outcome, codes_to as codes_to_spec, held_in};
+ghost use Rattle.sem_histories.specs.Outcomes.{outcome, codes_to as codes_to_spec};
 ghost use Rattle.std.specs.Prelude.{map};
 
 use sem_audit::held_list;

@@ -3,7 +3,6 @@ ghost use Rattle.std.specs.Prelude.{◌≡◌, ◌≢◌, ◌+◌, ◌^◌, ◌<
 ghost use Rattle.std.specs.Prelude.{slice_get, All, IfSome, IfNone, OnOk};
 ghost use Rattle.sem_msg.specs.declared.entry.Entry.{Entry as EntryData};
 ghost use Rattle.sem_machine.specs.Living.{IsComplete};
-ghost use Rattle.sem_machine.specs.Schedules.{world_after};
 ghost use Rattle.sem_kernel.specs.Standing.{StandsAt};
 ghost use Rattle.sem_outcomes.specs.Endings.{ListsEndings};
 

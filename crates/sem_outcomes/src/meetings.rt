@@ -1,5 +1,5 @@
 // The histories that events lead to.
-ghost use Rattle.std.specs.Prelude.{◌≡◌, ◌≢◌, ◌<◌, ◌≤◌, ◌∷◌, ◌++◌, [], true, length, All};
+ghost use Rattle.std.specs.Prelude.{◌≡◌, ◌<◌, ◌∷◌, ◌++◌, [], true, length, All};
 ghost use Rattle.std.specs.Prelude.{slice_index_or, slice_set, IfOk, IsErrOf, OnOk};
 ghost use Rattle.sem_machine.specs.Machine.{is_enabled};
 ghost use Rattle.sem_machine.specs.Schedules.{world_after};

@@ -1,4 +1,4 @@
-ghost use Rattle.std.specs.Prelude.{◌≡◌, ◌+◌, ◌<◌, length, take, IfOk, IsErrOf, OnOk};
+ghost use Rattle.std.specs.Prelude.{◌+◌, ◌<◌, length, take, IfOk, IsErrOf, OnOk};
 ghost use Rattle.sem_histories.specs.Closed.{CountsAs, ByParts};
 ghost use Rattle.sem_histories.specs.Search.{HasMoreThan};
 ghost use Rattle.sem_histories.specs.Listing.{ListsAllOutcomes};

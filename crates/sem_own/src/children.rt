@@ -4,6 +4,7 @@ ghost use Rattle.sem_msg.specs.Lookups.{is_declared};
 ghost use Rattle.sem_msg.specs.VpeRows.{row, slot};
 ghost use Rattle.sem_vpe.specs.VpeTable.{IsOurs};
 ghost use Rattle.sem_machine.specs.Sides.{Side};
+ghost use Rattle.sem_machine.specs.Steps.{step_of};
 ghost use Rattle.sem_machine.specs.Calls.{child_made, derive_row, gate_row};
 ghost use Rattle.sem_machine.specs.Calls.{narrowed as narrowed_spec};
 ghost use Rattle.sem_machine.specs.Stores.{IsNextFree, owning};
@@ -39,7 +40,7 @@ pub fn derive_call(
     requires child_room { HasRoomForChild caps.old (slot vpes.old.rows vpe src) }
     requires spare { 0 < caps.old.spare }
     ensures row { (s : Side) →
-        record { side = owning caps.new.caps vpes.new.rows s; outcome = result }
+        step_of result (owning caps.new.caps vpes.new.rows s)
         ≡ derive_row setup.now (owning caps.old.caps vpes.old.rows s) vpe src dst part.now.off
         part.now.len part.now.rights }
     ensures ours { vpes.new.ours ≡ vpes.old.ours }
@@ -73,7 +74,7 @@ pub fn gate_call(
     requires child_room { HasRoomForChild caps.old (slot vpes.old.rows vpe src) }
     requires spare { 0 < caps.old.spare }
     ensures row { (s : Side) →
-        record { side = owning caps.new.caps vpes.new.rows s; outcome = result }
+        step_of result (owning caps.new.caps vpes.new.rows s)
         ≡ gate_row setup.now (owning caps.old.caps vpes.old.rows s) vpe src dst label credits }
     ensures ours { vpes.new.ours ≡ vpes.old.ours }
     ensures spare { caps.old.spare ≤ caps.new.spare + 1 }
@@ -124,7 +125,7 @@ fn make_child(
     requires child_room { caps.old.child_room ≡ Some parent }
     requires spare { 0 < caps.old.spare }
     ensures row { (s : Side) →
-        record { side = owning caps.new.caps vpes.new.rows s; outcome = result }
+        step_of result (owning caps.new.caps vpes.new.rows s)
         ≡ child_made setup.now vpe dst object parent (owning caps.old.caps vpes.old.rows s) }
     ensures ours { vpes.new.ours ≡ vpes.old.ours }
     ensures spare { caps.old.spare ≤ caps.new.spare + 1 }

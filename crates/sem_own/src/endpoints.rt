@@ -5,6 +5,7 @@ ghost use Rattle.sem_vpe.specs.VpeTable.{IsOurs as IsOurVpe};
 ghost use Rattle.sem_dtu.specs.EndpointTable.{IsOurs};
 ghost use Rattle.sem_dtu.specs.declared.op.Op.TheVariants.{Read, Write, Credit};
 ghost use Rattle.sem_machine.specs.Sides.{Side, no_side, own};
+ghost use Rattle.sem_machine.specs.Steps.{step_of};
 ghost use Rattle.sem_machine.specs.Calls.{bind_row, credit_row, memory_row, send_row};
 ghost use Rattle.sem_machine.specs.Stores.{owning, with_endpoints};
 ghost use Rattle.sem_own.specs.Using.{use_row};
@@ -24,10 +25,7 @@ pub fn bind_call(vpe: u16, ep: u8, src: u8, caps: &Caps, vpes: &Vpes, dtus: &mut
     requires valid { IfSome (own (owning caps.now.caps vpes.now.rows no_side) vpe src)
         (λ c. IsValidObject c.object) }
     ensures row { (s : Side) →
-        record {
-          side = with_endpoints dtus.new.rows (owning caps.now.caps vpes.now.rows s);
-          outcome = result;
-        }
+        step_of result (with_endpoints dtus.new.rows (owning caps.now.caps vpes.now.rows s))
         ≡ bind_row (with_endpoints dtus.old.rows (owning caps.now.caps vpes.now.rows s))
         vpe ep src }
     ensures ours { dtus.new.ours ≡ dtus.old.ours }
@@ -48,7 +46,7 @@ pub fn read_call(vpe: u16, ep: u8, off: u32, len: u32, dtus: &mut Dtus) -> Outco
     requires ours { IsOurs dtus.old vpe }
     requires ep { ep < ENDPOINTS }
     ensures row { (s : Side) →
-        record { side = with_endpoints dtus.new.rows s; outcome = result }
+        step_of result (with_endpoints dtus.new.rows s)
         ≡ memory_row (with_endpoints dtus.old.rows s) vpe ep 1 off len }
     ensures ours { dtus.new.ours ≡ dtus.old.ours }
 {
@@ -61,7 +59,7 @@ pub fn write_call(vpe: u16, ep: u8, off: u32, len: u32, dtus: &mut Dtus) -> Outc
     requires ours { IsOurs dtus.old vpe }
     requires ep { ep < ENDPOINTS }
     ensures row { (s : Side) →
-        record { side = with_endpoints dtus.new.rows s; outcome = result }
+        step_of result (with_endpoints dtus.new.rows s)
         ≡ memory_row (with_endpoints dtus.old.rows s) vpe ep 2 off len }
     ensures ours { dtus.new.ours ≡ dtus.old.ours }
 {
@@ -74,7 +72,7 @@ pub fn send_call(vpe: u16, ep: u8, len: u32, dtus: &mut Dtus) -> Outcome
     requires ours { IsOurs dtus.old vpe }
     requires ep { ep < ENDPOINTS }
     ensures row { (s : Side) →
-        record { side = with_endpoints dtus.new.rows s; outcome = result }
+        step_of result (with_endpoints dtus.new.rows s)
         ≡ send_row (with_endpoints dtus.old.rows s) vpe ep len }
     ensures ours { dtus.new.ours ≡ dtus.old.ours }
 {
@@ -87,7 +85,7 @@ pub fn credit_call(vpe: u16, ep: u8, dtus: &mut Dtus) -> Outcome
     requires ours { IsOurs dtus.old vpe }
     requires ep { ep < ENDPOINTS }
     ensures row { (s : Side) →
-        record { side = with_endpoints dtus.new.rows s; outcome = result }
+        step_of result (with_endpoints dtus.new.rows s)
         ≡ credit_row (with_endpoints dtus.old.rows s) vpe ep }
     ensures ours { dtus.new.ours ≡ dtus.old.ours }
 {
@@ -99,7 +97,7 @@ fn used(vpe: u16, ep: u8, op: Op, dtus: &mut Dtus) -> Outcome
     requires ours { IsOurs dtus.old vpe }
     requires ep { ep < ENDPOINTS }
     ensures row { (s : Side) →
-        record { side = with_endpoints dtus.new.rows s; outcome = result }
+        step_of result (with_endpoints dtus.new.rows s)
         ≡ use_row op vpe ep (with_endpoints dtus.old.rows s) }
     ensures ours { dtus.new.ours ≡ dtus.old.ours }
 {

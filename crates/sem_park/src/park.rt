@@ -1,4 +1,4 @@
-ghost use Rattle.std.specs.Prelude.{◌≡◌, ◌<◌, ◌≤◌, length, replicate, None, Some};
+ghost use Rattle.std.specs.Prelude.{◌≡◌, ◌<◌, replicate, None, Some};
 ghost use Rattle.sem_msg.specs.ParkedStates.{state_of, parked_as, unparked, promised_to, cancelled};
 ghost use Rattle.sem_msg.specs.ParkedStates.{is_obtain_wait as is_obtain_wait_spec};
 ghost use Rattle.sem_msg.specs.ParkedStates.{is_delegate_wait as is_delegate_wait_spec};

@@ -38,6 +38,5 @@ pub mod ReplyCodes
 pub mod Explaining
 pub mod Settlements
 pub mod StatesSince
-pub mod Played
 pub mod Built
 mod Followed

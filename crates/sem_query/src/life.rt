@@ -1,6 +1,6 @@
 // The life of one key.
 ghost use Rattle.std.specs.Prelude.{◌≡◌, ◌+◌, ◌<◌, ◌^◌, Some, None, nat_lt, count_by};
-ghost use Rattle.std.specs.Prelude.{if◌then◌else◌, OnOk};
+ghost use Rattle.std.specs.Prelude.{OnOk};
 ghost use Rattle.sem_query.specs.Lives.{is_below as is_below_spec};
 ghost use Rattle.sem_query.specs.Lives.{is_ungranted as is_ungranted_spec};
 ghost use Rattle.sem_query.specs.Lives.{is_odd as is_odd_spec, held_at as held_at_spec};

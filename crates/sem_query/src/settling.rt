@@ -1,7 +1,5 @@
 // Which entry settled the answer to a call of a VPE.
 ghost use Rattle.std.specs.Prelude.{◌≡◌, ◌↔◌, ℕ, ◌≤◌, ◌<◌, length, IsTrue, IfOk};
-ghost use Rattle.sem_machine.specs.Sides.{parked};
-ghost use Rattle.sem_machine.specs.Machine.{side};
 ghost use Rattle.sem_machine.specs.Schedules.{IsSchedule};
 ghost use Rattle.sem_query.specs.Denials.{IsCallAt, IsLastCall, Settles};
 ghost use Rattle.sem_query.specs.Parking.{states_since as states_since_spec, IsFirstPlace};

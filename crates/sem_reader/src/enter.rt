@@ -1,7 +1,6 @@
 // Enters an accepted line into the tables.
-ghost use Rattle.std.specs.Prelude.{◌≡◌, ℕ, ◌<◌, ◌≤◌, Some, List, [], ◌∷◌, ◌++◌, ◌+◌, ◌*◌, true};
+ghost use Rattle.std.specs.Prelude.{◌≡◌, ℕ, ◌<◌, ◌≤◌, Some, List, [], ◌∷◌, ◌++◌, ◌+◌, true};
 ghost use Rattle.std.specs.Prelude.{None, length, slice_index_or, slice_set, OnOk};
-ghost use Rattle.sem_key.specs.declared.limits.TheConstants.{VPES};
 ghost use Rattle.sem_trace.specs.declared.declaration.Declaration.{Declaration as DeclarationData};
 ghost use Rattle.sem_trace.specs.Context.{context_fault};
 ghost use Rattle.sem_trace.specs.Ranges.{IsInRange};

@@ -1,12 +1,11 @@
 // The setup of the tables.
-ghost use Rattle.std.specs.Prelude.{map as list_map, ◌≡◌, ℕ, ◌<◌, ◌≤◌, ◌++◌, List, All, filter_map};
+ghost use Rattle.std.specs.Prelude.{map as list_map, ◌≡◌, ℕ, ◌<◌, ◌++◌, List, All};
 ghost use Rattle.std.specs.Prelude.{option_map, option_to_list, IfOk, OnOk};
 ghost use Rattle.sem_key.specs.declared.limits.TheConstants.{NUMBERS};
 ghost use Rattle.sem_msg.specs.Setup.{services_from, service_with as service_with_spec};
 ghost use Rattle.sem_key.specs.declared.limits.TheConstants.{VPES as VPES_SPEC};
 ghost use Rattle.sem_trace.specs.declared.declaration.Declaration.{Declaration as DeclarationData};
 ghost use Rattle.sem_trace.specs.Earlier.{vpe_in, kill_in};
-ghost use Rattle.sem_trace.specs.Refusal.{numbers};
 ghost use Rattle.sem_trace.specs.SetupOfText.{vpes_of, services_among as services_among_spec};
 ghost use Rattle.sem_trace.specs.SetupOfText.{named as named_spec, services_of as services_of_spec};
 ghost use Rattle.sem_trace.specs.SetupOfText.{offers_of, denies_of, kills_of, setup_of};

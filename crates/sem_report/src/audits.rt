@@ -1,5 +1,5 @@
 // Comparing audits.
-ghost use Rattle.std.specs.Prelude.{◌≡◌, ◌↔◌, ◌-◌, ◌≤◌, ℕ, List, length, IsTrue, MatchOption};
+ghost use Rattle.std.specs.Prelude.{◌≡◌, ◌↔◌, ◌-◌, ◌≤◌, List, length, IsTrue, MatchOption};
 ghost use Rattle.sem_msg.specs.declared.entry.Entry.{Entry as EntryData};
 ghost use Rattle.sem_msg.specs.Setup.{Setup as SetupRecord};
 ghost use Rattle.sem_report.specs.WholeLines.{whole_lines};

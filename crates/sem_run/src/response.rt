@@ -1,6 +1,6 @@
 // What the program is about to leave.
-ghost use Rattle.std.specs.Prelude.{◌≡◌, [], List};
-ghost use Rattle.sem_io.specs.declared.transfer.ReadError.TheVariants.{Fault, Memory as NoMemory};
+ghost use Rattle.std.specs.Prelude.{◌≡◌, []};
+ghost use Rattle.sem_io.specs.declared.transfer.ReadError.TheVariants.{Fault};
 ghost use Rattle.sem_cli.specs.declared.statuses.Status.TheVariants.{ReadFault, Memory};
 ghost use Rattle.sem_run.specs.Inputs.{Given as GivenRecord};
 ghost use Rattle.sem_run.specs.Ends.{left};

@@ -1,5 +1,5 @@
 // Runs of a setup with each kernel in its own threads.
-ghost use Rattle.std.specs.Prelude.{◌≡◌, Some, IfOk};
+ghost use Rattle.std.specs.Prelude.{Some, IfOk};
 ghost use Rattle.sem_cli.specs.declared.forms.Command.TheVariants.{Threads as InThreads};
 ghost use Rattle.sem_kernel.specs.Standing.{StandsAt};
 ghost use Rattle.sem_run.specs.Inputs.{input_given};

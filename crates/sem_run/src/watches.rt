@@ -1,5 +1,5 @@
 // What is found in a report while it is checked.
-ghost use Rattle.std.specs.Prelude.{◌≡◌, OnOk};
+ghost use Rattle.std.specs.Prelude.{◌≡◌};
 ghost use Rattle.sem_run.specs.Findings.{question_about, IsNew, IsFound, IsFoundBefore};
 
 use crate::findings::Finding;

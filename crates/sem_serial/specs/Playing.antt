@@ -1,5 +1,5 @@
 -- Given events, one after another.
-use Rattle.std.specs.Prelude.{◌≡◌, ℕ, false, List, length, map, slice_get, Option, Some}
+use Rattle.std.specs.Prelude.{◌≡◌, ℕ, false, List, length, map, slice_get, Some}
 use Rattle.sem_machine.specs.Prelude.{Event, Entry, Setup, is_enabled, world_after}
 
 -- the events of a journal

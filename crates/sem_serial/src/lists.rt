@@ -1,5 +1,5 @@
 // The enabled events of each kernel, kept from event to event.
-ghost use Rattle.std.specs.Prelude.{◌≡◌, ◌^◌, ◌+◌, ◌<◌, ◌≤◌, ◌==◌, true, List, length, map};
+ghost use Rattle.std.specs.Prelude.{◌≡◌, ◌^◌, ◌+◌, ◌<◌, ◌≤◌, ◌==◌, true, length, map};
 ghost use Rattle.std.specs.Prelude.{slice_get, slice_set, sum_by, is_some, OnSome, OnOk, IfOk};
 ghost use Rattle.std.specs.List.{flat_map, list_any};
 ghost use Rattle.rand_pcg.specs.Pcg.{pcg32};

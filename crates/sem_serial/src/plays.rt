@@ -1,4 +1,4 @@
-ghost use Rattle.std.specs.Prelude.{◌≡◌, ℕ, [], length, map, take, OnOk, IfOk, IsErrOf};
+ghost use Rattle.std.specs.Prelude.{◌≡◌, ℕ, [], length, take, OnOk, IfOk, IsErrOf};
 ghost use Rattle.sem_machine.specs.Schedules.{IsSchedule, world_after};
 ghost use Rattle.sem_machine.specs.Safety.{IsSafe};
 ghost use Rattle.sem_serial.specs.Playing.{events_of, StopsAt};

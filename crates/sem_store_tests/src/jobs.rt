@@ -1,4 +1,4 @@
-ghost use Rattle.std.specs.Prelude.{◌≡◌, ◌≤◌, ◌<◌, IfSome};
+ghost use Rattle.std.specs.Prelude.{◌≤◌, ◌<◌, IfSome};
 
 use sem_jobs::{Jobs, Scratch, Up};
 use sem_key::{Key, Kind, OutOfMemory, VPES};

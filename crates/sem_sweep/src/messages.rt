@@ -1,5 +1,5 @@
 // The messages of a job that finishes and of a VPE that ends; all of them fit.
-ghost use Rattle.std.specs.Prelude.{◌≡◌, ◌<◌, ◌≤◌, ◌+◌, [], ◌∷◌, ◌++◌, false};
+ghost use Rattle.std.specs.Prelude.{◌≡◌, ◌<◌, ◌+◌, [], ◌∷◌, ◌++◌, false};
 ghost use Rattle.sem_msg.specs.declared.message.Message.TheVariants.{Ack, DelegateNo, ObtainNo};
 ghost use Rattle.sem_msg.specs.declared.message.Message.TheVariants.{Orphan, RevokeDone, Unlink};
 ghost use Rattle.sem_msg.specs.declared.code.Code.TheVariants.{Dead};

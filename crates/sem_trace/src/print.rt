@@ -1,6 +1,6 @@
 // The lines of a trace. If memory is refused, each of these functions but `print_trace` may have
 // appended a part.
-ghost use Rattle.std.specs.Prelude.{◌≡◌, ℕ, [], ◌∷◌, ◌++◌, length, map, flat_map, codes, decimal};
+ghost use Rattle.std.specs.Prelude.{◌≡◌, [], ◌∷◌, ◌++◌, length, map, flat_map, codes, decimal};
 ghost use Rattle.std.specs.Prelude.{OnOk, OnErr};
 ghost use Rattle.std.specs.List.{enumerate_from};
 ghost use Rattle.sem_key.specs.MembershipTable.{owner_at};

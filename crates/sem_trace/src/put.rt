@@ -1,7 +1,6 @@
 // Words of a line, where there is room for them.
 ghost use Rattle.std.specs.Prelude.{◌≡◌, ◌+◌, ◌*◌, ◌<◌, ◌≤◌, ◌∷◌, ◌++◌, length, map, decimal};
 ghost use Rattle.std.specs.Prelude.{vec_len, vec_capacity};
-ghost use Rattle.sem_key.specs.KeyName.{kind_number};
 ghost use Rattle.sem_text.specs.Lines.{behind_blanks};
 ghost use Rattle.sem_trace.specs.CallForms.{call_row};
 ghost use Rattle.sem_trace.specs.Words.{key_word, place_word, object_words, call_words};

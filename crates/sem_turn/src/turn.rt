@@ -1,4 +1,4 @@
-ghost use Rattle.std.specs.Prelude.{◌≡◌, ◌<◌, ◌≤◌, ◌∷◌, ◌++◌, ◌==◌, ℕ, [], length, count_by, All};
+ghost use Rattle.std.specs.Prelude.{◌≡◌, ◌<◌, ◌∷◌, ◌++◌, ◌==◌, ℕ, [], length, All};
 ghost use Rattle.std.specs.Prelude.{IfOk, IfSome, IfNone, IsSomeAnd, None, Some, true, false};
 ghost use Rattle.sem_msg.specs.Journal.{part};
 ghost use Rattle.sem_turn.specs.Passes.{new_pass, new_passes, times, has_place, IsWhole, Follows};

@@ -6,10 +6,10 @@ use Rattle.sem_delegate.proofs.messages.tell_owner.Goals as goal
 pub returns-clause-left : goal.returns-clause-left
 returns-clause-left c = record {
   boxes = boxes-sent c.args.setup.now c.args.outs.now c.send.new.self c.owner_of.result _ (omega (
-  arith,
-  c.owner_of.ensures,
-  c.requires.owner,
-  c.requires.sends.boxes,
-)) c.send.ensures.boxes c.requires.sends.boxes;
+    arith,
+    c.owner_of.ensures,
+    c.requires.owner,
+    c.requires.sends.boxes,
+  )) c.send.ensures.boxes c.requires.sends.boxes;
   spare = search rules;
 }

@@ -31,9 +31,9 @@ send-requires-clause-to_kernel c =
 pub returns-else-owner-kernel-clause-left : goal.returns-else-owner-kernel-clause-left
 returns-else-owner-kernel-clause-left c = record {
   boxes = boxes-sent c.args.setup.now c.args.outs.now c.send.new.self c.declared_kernel-owner.result _ (omega (
-      arith,
-      c.declared_kernel-owner.ensures.below,
-      c.requires.sends.boxes,
-    )) c.send.ensures.boxes c.requires.sends.boxes;
+    arith,
+    c.declared_kernel-owner.ensures.below,
+    c.requires.sends.boxes,
+  )) c.send.ensures.boxes c.requires.sends.boxes;
   spare = search rules;
 }

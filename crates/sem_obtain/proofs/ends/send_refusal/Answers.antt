@@ -6,10 +6,10 @@ use Rattle.sem_obtain.proofs.ends.send_refusal.Goals as goal
 pub returns-clause-left : goal.returns-clause-left
 returns-clause-left c = record {
   boxes = boxes-sent c.args.setup.now c.args.outs.now c.send.new.self c.place_owner.result _ (omega (
-  arith,
-  c.place_owner.ensures,
-  c.requires.owner,
-  c.requires.sends.boxes,
-)) c.send.ensures.boxes c.requires.sends.boxes;
+    arith,
+    c.place_owner.ensures,
+    c.requires.owner,
+    c.requires.sends.boxes,
+  )) c.send.ensures.boxes c.requires.sends.boxes;
   spare = search rules;
 }

@@ -32,6 +32,6 @@ returns-then-kernel_of-kernel-clause-row c s =
 pub returns-else-kernel_of-kernel-clause-left : goal.returns-else-kernel_of-kernel-clause-left
 returns-else-kernel_of-kernel-clause-left c = record {
   boxes = boxes-sent c.args.setup.now c.args.outs.now c.send.new.self c.owner_of.result _
-    (omega (arith, c.owner_of.ensures, c.requires.owner, c.requires.sends.boxes)) c.send.ensures.boxes c.requires.sends.boxes;
+      (omega (arith, c.owner_of.ensures, c.requires.owner, c.requires.sends.boxes)) c.send.ensures.boxes c.requires.sends.boxes;
   spare = search rules;
 }

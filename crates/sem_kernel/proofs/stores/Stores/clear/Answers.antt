@@ -1,7 +1,8 @@
 use Rattle.std.proofs.Common.{◌∙◌, true, ap, arith, rules}
 use Rattle.sem_machine.specs.Sides.{Side}
 use Rattle.sem_sound.proofs.Meeting.{ids-fit}
-use Rattle.sem_kernel.proofs.Openings.{lead-home, call-middle, call-jobs, call-caps, step_of}
+use Rattle.sem_kernel.proofs.Openings.{lead-home, call-middle, call-jobs, call-caps}
+use Rattle.sem_machine.specs.Steps.{step_of}
 use Rattle.sem_kernel.specs.KernelStores.{side_of}
 use Rattle.sem_kernel.proofs.stores.Stores.clear.Goals as goal
 
@@ -40,7 +41,7 @@ finish-requires-clause-gone c some =
 
 pub returns : goal.returns
 returns c = record {
-  row = ap (λ (t : Side). step_of t c.clear_call-outcome.result.0) c.finish.ensures.row
+  row = ap (λ (t : Side). step_of c.clear_call-outcome.result.0 t) c.finish.ensures.row
       ∙ c.clear_call-outcome.ensures.row (side_of c.args.self.now);
   stores = search rules;
 }

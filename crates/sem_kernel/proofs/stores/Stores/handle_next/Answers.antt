@@ -2,7 +2,7 @@ use Rattle.std.proofs.Common.{◌≡◌, ◌∙◌, ℕ, Option, Some, true, fal
 use Rattle.std.specs.Prelude.{is_some}
 use Rattle.sem_msg.specs.declared.message.Message.{Message}
 use Rattle.sem_msg.specs.declared.entry.Outcome.{Outcome}
-use Rattle.sem_kernel.proofs.Openings.{step_of}
+use Rattle.sem_machine.specs.Steps.{step_of}
 use Rattle.sem_kernel.specs.KernelStores.{side_of}
 use Rattle.sem_kernel.proofs.Enabled.{handle-some}
 use Rattle.sem_kernel.proofs.Nexts.{handle-step, handle-detail}
@@ -24,7 +24,7 @@ pub returns : goal.returns
 returns c =
     let inbox : c.args.self.now.inbox ≡ Some (c.in-Some.from, c.in-Some.message) = search rules in
     record {
-      step = ap (λ (o : Outcome). step_of (side_of c.receive.new.self) o) c.nothing.ensures
+      step = ap (λ (o : Outcome). step_of o (side_of c.receive.new.self)) c.nothing.ensures
           ∙ handle-step c.args.setup.now c.args.kernel (side_of c.args.self.now) (side_of c.receive.new.self) c.in-Some.from c.in-Some.message inbox
           c.receive.ensures.row;
       detail_is = handle-detail c.args.setup.now (side_of c.args.self.now) c.in-Some.from c.in-Some.message c.nothing.result inbox;

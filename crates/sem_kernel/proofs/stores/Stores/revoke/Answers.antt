@@ -5,7 +5,8 @@ use Rattle.sem_machine.specs.Sides.{Side}
 use Rattle.sem_sound.proofs.Meeting.{ids-fit}
 use Rattle.sem_sound.proofs.Revoking.{slack-of}
 use Rattle.sem_kernel.proofs.Meets.{own-sound}
-use Rattle.sem_kernel.proofs.Openings.{lead-home, call-middle, call-jobs, call-caps, marker-there, step_of}
+use Rattle.sem_kernel.proofs.Openings.{lead-home, call-middle, call-jobs, call-caps, marker-there}
+use Rattle.sem_machine.specs.Steps.{step_of}
 use Rattle.sem_kernel.specs.KernelStores.{side_of}
 use Rattle.sem_kernel.proofs.stores.Stores.revoke.Goals as goal
 
@@ -51,7 +52,7 @@ finish-requires-clause-gone c some =
 
 pub returns : goal.returns
 returns c = record {
-  row = ap (λ (t : Side). step_of t c.revoke_call-outcome.result.0) c.finish.ensures.row
+  row = ap (λ (t : Side). step_of c.revoke_call-outcome.result.0 t) c.finish.ensures.row
       ∙ c.revoke_call-outcome.ensures.row (side_of c.args.self.now);
   stores = search rules;
 }
