@@ -1,9 +1,10 @@
 ghost use Rattle.std.specs.Prelude.{◌≡◌, ℕ, ◌<◌, ◌≤◌, ◌+◌, None};
 ghost use Rattle.sem_key.specs.CapList.{cap_of};
 ghost use Rattle.sem_msg.specs.declared.message.Message.TheVariants.{Ack};
-ghost use Rattle.sem_msg.specs.Lookups.{kernel_of as kernel_of_spec, owner_of as owner_of_spec};
+ghost use Rattle.sem_msg.specs.Lookups.{owner_of as owner_of_spec};
 ghost use Rattle.sem_msg.specs.Outboxes.{CanSend, HasSent};
-ghost use Rattle.sem_vpe.specs.VpeTable.{AreOurs, IsOurs};
+ghost use Rattle.sem_vpe.specs.Telling.{CanTell};
+ghost use Rattle.sem_vpe.specs.VpeTable.{IsOurs};
 ghost use Rattle.sem_machine.specs.Sides.{Side};
 ghost use Rattle.sem_machine.specs.Handles.{handle_row};
 ghost use Rattle.sem_delegate.specs.Delegating.{CanHold, acking, held_or_orphaned, keeping};
@@ -30,10 +31,8 @@ pub fn ack(
     pendings: &mut Pendings,
     outs: &mut Outboxes,
 )
-    requires home { AreOurs setup.now kernel vpes.old }
-    requires vpe { kernel_of_spec setup.now key.vpe ≡ kernel }
+    requires can { CanTell setup.now kernel key.vpe vpes.old outs.old }
     requires holds { CanHold setup.now caps.old key (pending_of pendings.old.pendings key) }
-    requires sends { CanSend setup.now outs.old }
     requires caps_spare { 0 < caps.old.spare }
     ensures row { (from : ℕ) (s : Side) →
         acking caps.new vpes.new pendings.new outs.new s

@@ -2,8 +2,9 @@ ghost use Rattle.std.specs.Prelude.{◌≡◌, ◌≢◌, ℕ, ◌<◌, true};
 ghost use Rattle.sem_msg.specs.declared.message.Message.TheVariants.{DelegateNo, DelegatePrepared};
 ghost use Rattle.sem_msg.specs.declared.message.Message.TheVariants.{DelegateReq};
 ghost use Rattle.sem_msg.specs.Lookups.{kernel_of as kernel_of_spec, owner_of as owner_of_spec};
-ghost use Rattle.sem_msg.specs.Outboxes.{CanSend, HasSent};
+ghost use Rattle.sem_msg.specs.Outboxes.{HasSent};
 ghost use Rattle.sem_msg.specs.ParkedStates.{state_of};
+ghost use Rattle.sem_vpe.specs.Telling.{CanTell};
 ghost use Rattle.sem_vpe.specs.VpeTable.{AreOurs};
 ghost use Rattle.sem_machine.specs.Asks.{call_refused, is_delegate_wait};
 ghost use Rattle.sem_machine.specs.Sides.{Side};
@@ -30,11 +31,9 @@ pub fn delegate_request(
     vpes: &mut Vpes,
     outs: &mut Outboxes,
 )
-    requires home { AreOurs setup.now kernel vpes.old }
-    requires vpe { kernel_of_spec setup.now vpe ≡ kernel }
+    requires can { CanTell setup.now kernel vpe vpes.old outs.old }
     requires other { kernel_of_spec setup.now parent.vpe ≢ kernel }
     requires owner { owner_of_spec setup.now parent < setup.now.kernels }
-    requires sends { CanSend setup.now outs.old }
     ensures row { (from : ℕ) (s : Side) →
         with_vpes vpes.new.rows (with_outs outs.new.boxes s)
         ≡ handle_row setup.now kernel (with_vpes vpes.old.rows (with_outs outs.old.boxes s)) from
@@ -68,10 +67,8 @@ pub fn delegate_prepared(
     park: &mut Park,
     outs: &mut Outboxes,
 )
-    requires home { AreOurs setup.now kernel vpes.now }
-    requires vpe { kernel_of_spec setup.now parent.vpe ≡ kernel }
+    requires can { CanTell setup.now kernel parent.vpe vpes.now outs.old }
     requires owner { owner_of_spec setup.now key < setup.now.kernels }
-    requires sends { CanSend setup.now outs.old }
     ensures row { (from : ℕ) (s : Side) →
         with_vpes_parks_outs vpes.now.rows park.new outs.new.boxes s
         ≡ handle_row setup.now kernel (with_vpes_parks_outs vpes.now.rows park.old outs.old.boxes s)

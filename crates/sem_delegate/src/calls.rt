@@ -1,9 +1,10 @@
 ghost use Rattle.std.specs.Prelude.{◌≡◌, ◌<◌, true, IfSome};
 ghost use Rattle.sem_key.specs.declared.limits.TheConstants.{VPES};
 ghost use Rattle.sem_key.specs.Capability.{capability_of};
-ghost use Rattle.sem_msg.specs.Lookups.{is_declared, kernel_of as kernel_of_spec};
+ghost use Rattle.sem_msg.specs.Lookups.{is_declared};
 ghost use Rattle.sem_msg.specs.Message.{IsDelegable};
 ghost use Rattle.sem_msg.specs.Outboxes.{CanSend, HasSent};
+ghost use Rattle.sem_vpe.specs.Telling.{CanAsk};
 ghost use Rattle.sem_vpe.specs.VpeTable.{AreOurs};
 ghost use Rattle.sem_machine.specs.Sides.{Side, no_side, own};
 ghost use Rattle.sem_machine.specs.Steps.{step_of, unshown};
@@ -33,11 +34,8 @@ pub fn delegate_call(
     park: &mut Park,
     outs: &mut Outboxes,
 ) -> Outcome
-    requires home { AreOurs setup.now kernel vpes.old }
-    requires vpe { kernel_of_spec setup.now vpe ≡ kernel }
-    requires declared { is_declared setup.now vpe ≡ true }
+    requires can { CanAsk setup.now kernel vpe vpes.old outs.old }
     requires valid { IfSome (own (owning caps.now.caps vpes.old.rows no_side) vpe src) IsOfKind }
-    requires sends { CanSend setup.now outs.old }
     ensures row { (s : Side) →
         step_of result
         (with_caps_vpes_parks_outs caps.now.caps vpes.new.rows park.new outs.new.boxes s)

@@ -1,9 +1,9 @@
 ghost use Rattle.std.specs.Prelude.{◌≡◌, ◌<◌, ◌≤◌, ◌+◌, true};
 ghost use Rattle.sem_msg.specs.declared.state.Ask.TheVariants.{Delegate as DelegateAsk};
-ghost use Rattle.sem_msg.specs.Lookups.{is_declared, kernel_of as kernel_of_spec};
+ghost use Rattle.sem_msg.specs.Lookups.{is_declared};
 ghost use Rattle.sem_msg.specs.Lookups.{owner_of as owner_of_spec};
-ghost use Rattle.sem_msg.specs.Outboxes.{CanSend, HasSent};
-ghost use Rattle.sem_vpe.specs.VpeTable.{AreOurs};
+ghost use Rattle.sem_msg.specs.Outboxes.{HasSent};
+ghost use Rattle.sem_vpe.specs.Telling.{CanTell};
 ghost use Rattle.sem_machine.specs.Sides.{Side};
 ghost use Rattle.sem_machine.specs.Steps.{step_of};
 ghost use Rattle.sem_machine.specs.Stores.{IsNextFree};
@@ -37,13 +37,11 @@ pub fn delegate_upcall(
     pendings: &mut Pendings,
     outs: &mut Outboxes,
 ) -> Outcome
-    requires home { AreOurs setup.now kernel vpes.old }
-    requires vpe { kernel_of_spec setup.now vpe ≡ kernel }
+    requires can { CanTell setup.now kernel vpe vpes.old outs.old }
     requires declared { is_declared setup.now vpe ≡ true }
     requires owner { owner_of_spec setup.now parent < setup.now.kernels }
     requires free { IsNextFree setup.now caps.old.caps vpes.old.rows vpe }
     requires child_room { HasRoomFor caps.old parent }
-    requires sends { CanSend setup.now outs.old }
     requires caps_spare { 0 < caps.old.spare }
     requires pendings_spare { 0 < pendings.old.spare }
     ensures row { (s : Side) →

@@ -4,7 +4,8 @@ ghost use Rattle.sem_msg.specs.declared.message.Message.TheVariants.{Orphan};
 ghost use Rattle.sem_msg.specs.Lookups.{kernel_of as kernel_of_spec, owner_of as owner_of_spec};
 ghost use Rattle.sem_msg.specs.Lookups.{place_owner as place_owner_spec};
 ghost use Rattle.sem_msg.specs.Message.{Fits};
-ghost use Rattle.sem_msg.specs.Outboxes.{CanSend, HasSent};
+ghost use Rattle.sem_msg.specs.Outboxes.{HasSent};
+ghost use Rattle.sem_vpe.specs.Telling.{CanTell};
 ghost use Rattle.sem_vpe.specs.VpeTable.{AreOurs};
 ghost use Rattle.sem_machine.specs.Asks.{target_vpe as target_vpe_spec};
 ghost use Rattle.sem_machine.specs.Sides.{Side};
@@ -38,10 +39,8 @@ pub fn obtain_answer(
     park: &mut Park,
     outs: &mut Outboxes,
 )
-    requires home { AreOurs setup.now kernel vpes.now }
-    requires vpe { kernel_of_spec setup.now key.vpe ≡ kernel }
+    requires can { CanTell setup.now kernel key.vpe vpes.now outs.old }
     requires owner { owner_of_spec setup.now parent < setup.now.kernels }
-    requires sends { CanSend setup.now outs.old }
     ensures row { (from : ℕ) (s : Side) →
         with_vpes_parks_outs vpes.now.rows park.new outs.new.boxes s
         ≡ handle_row setup.now kernel (with_vpes_parks_outs vpes.now.rows park.old outs.old.boxes s)
@@ -97,11 +96,9 @@ pub fn obtain_request(
     vpes: &mut Vpes,
     outs: &mut Outboxes,
 )
-    requires home { AreOurs setup.now kernel vpes.old }
-    requires vpe { kernel_of_spec setup.now (target_vpe_spec target) ≡ kernel }
+    requires can { CanTell setup.now kernel (target_vpe_spec target) vpes.old outs.old }
     requires other { kernel_of_spec setup.now place.vpe ≢ kernel }
     requires owner { place_owner_spec setup.now place < setup.now.kernels }
-    requires sends { CanSend setup.now outs.old }
     ensures row { (from : ℕ) (s : Side) →
         with_vpes vpes.new.rows (with_outs outs.new.boxes s)
         ≡ handle_row setup.now kernel (with_vpes vpes.old.rows (with_outs outs.old.boxes s)) from

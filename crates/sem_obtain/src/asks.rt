@@ -1,9 +1,9 @@
 ghost use Rattle.std.specs.Prelude.{◌≡◌, true, None};
 ghost use Rattle.sem_msg.specs.declared.message.Message.TheVariants.{ObtainReq};
-ghost use Rattle.sem_msg.specs.Lookups.{is_declared, kernel_of as kernel_of_spec};
+ghost use Rattle.sem_msg.specs.Lookups.{is_declared};
 ghost use Rattle.sem_msg.specs.Message.{Fits, IsValidTarget};
-ghost use Rattle.sem_msg.specs.Outboxes.{CanSend, HasSent};
-ghost use Rattle.sem_vpe.specs.VpeTable.{AreOurs};
+ghost use Rattle.sem_msg.specs.Outboxes.{HasSent};
+ghost use Rattle.sem_vpe.specs.Telling.{CanAsk};
 ghost use Rattle.sem_machine.specs.Asks.{target_vpe as target_vpe_spec};
 ghost use Rattle.sem_machine.specs.Sides.{Side, no_side};
 ghost use Rattle.sem_machine.specs.Steps.{first_code, unshown};
@@ -36,15 +36,12 @@ pub fn make_ask(
     park: &mut Park,
     outs: &mut Outboxes,
 )
-    requires home { AreOurs setup.now kernel vpes.old }
-    requires vpe { kernel_of_spec setup.now vpe ≡ kernel }
-    requires declared { is_declared setup.now vpe ≡ true }
+    requires can { CanAsk setup.now kernel vpe vpes.old outs.old }
     requires other { other ≡ target_vpe_spec target }
     requires asked { is_declared setup.now other ≡ true }
     requires target { IsValidTarget target }
     requires free { first_code (destination_tests (with_vpes vpes.old.rows no_side) vpe dst)
         ≡ None }
-    requires sends { CanSend setup.now outs.old }
     ensures row { (s : Side) →
         unshown (with_vpes_parks_outs vpes.new.rows park.new outs.new.boxes s)
         ≡ ask_made setup.now kernel vpe dst target

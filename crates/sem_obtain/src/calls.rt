@@ -1,12 +1,12 @@
 ghost use Rattle.std.specs.Prelude.{◌≡◌, true, IfSome};
-ghost use Rattle.sem_msg.specs.Lookups.{is_declared, kernel_of as kernel_of_spec};
+ghost use Rattle.sem_msg.specs.Lookups.{is_declared};
 ghost use Rattle.sem_msg.specs.declared.message.Target.TheVariants.{Offer as OfferTarget};
 ghost use Rattle.sem_msg.specs.declared.message.Target.TheVariants.{Sel as SelTarget};
 ghost use Rattle.sem_msg.specs.declared.message.Target.TheVariants.{Serv as ServTarget};
 ghost use Rattle.sem_key.specs.declared.key.Kind.TheVariants.{Serv as ServKind};
 ghost use Rattle.sem_msg.specs.Message.{IsValidTarget};
-ghost use Rattle.sem_msg.specs.Outboxes.{CanSend, HasSent};
-ghost use Rattle.sem_vpe.specs.VpeTable.{AreOurs};
+ghost use Rattle.sem_msg.specs.Outboxes.{HasSent};
+ghost use Rattle.sem_vpe.specs.Telling.{CanAsk};
 ghost use Rattle.sem_machine.specs.Sides.{Side, no_side, own};
 ghost use Rattle.sem_machine.specs.Steps.{step_of};
 ghost use Rattle.sem_machine.specs.Sound.{IsSoundObject};
@@ -35,10 +35,7 @@ pub fn obtain_call(
     park: &mut Park,
     outs: &mut Outboxes,
 ) -> Outcome
-    requires home { AreOurs setup.now kernel vpes.old }
-    requires vpe { kernel_of_spec setup.now vpe ≡ kernel }
-    requires declared { is_declared setup.now vpe ≡ true }
-    requires sends { CanSend setup.now outs.old }
+    requires { CanAsk setup.now kernel vpe vpes.old outs.old }
     ensures row { (s : Side) →
         step_of result (with_vpes_parks_outs vpes.new.rows park.new outs.new.boxes s)
         ≡ obtain_row setup.now kernel (with_vpes_parks_outs vpes.old.rows park.old outs.old.boxes s)
@@ -76,10 +73,7 @@ pub fn open_call(
     park: &mut Park,
     outs: &mut Outboxes,
 ) -> Outcome
-    requires home { AreOurs setup.now kernel vpes.old }
-    requires vpe { kernel_of_spec setup.now vpe ≡ kernel }
-    requires declared { is_declared setup.now vpe ≡ true }
-    requires sends { CanSend setup.now outs.old }
+    requires { CanAsk setup.now kernel vpe vpes.old outs.old }
     ensures row { (s : Side) →
         step_of result (with_vpes_parks_outs vpes.new.rows park.new outs.new.boxes s)
         ≡ open_row setup.now kernel (with_vpes_parks_outs vpes.old.rows park.old outs.old.boxes s)
@@ -122,12 +116,9 @@ pub fn offer_call(
     park: &mut Park,
     outs: &mut Outboxes,
 ) -> Outcome
-    requires home { AreOurs setup.now kernel vpes.old }
-    requires vpe { kernel_of_spec setup.now vpe ≡ kernel }
-    requires declared { is_declared setup.now vpe ≡ true }
+    requires can { CanAsk setup.now kernel vpe vpes.old outs.old }
     requires session { IfSome (own (owning caps.now.caps vpes.old.rows no_side) vpe session)
         (λ c. IsSoundObject setup.now c.object) }
-    requires sends { CanSend setup.now outs.old }
     ensures row { (s : Side) →
         step_of result
         (with_caps_vpes_parks_outs caps.now.caps vpes.new.rows park.new outs.new.boxes s)

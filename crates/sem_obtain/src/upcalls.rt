@@ -11,6 +11,7 @@ ghost use Rattle.sem_msg.specs.Lookups.{place_owner as place_owner_spec};
 ghost use Rattle.sem_msg.specs.Message.{Fits, IsValidTarget};
 ghost use Rattle.sem_msg.specs.Outboxes.{CanSend, HasSent};
 ghost use Rattle.sem_msg.specs.ParkedStates.{state_of};
+ghost use Rattle.sem_vpe.specs.Telling.{CanTell};
 ghost use Rattle.sem_vpe.specs.VpeTable.{AreOurs, IsOurs};
 ghost use Rattle.sem_machine.specs.Sides.{Side, no_side};
 ghost use Rattle.sem_machine.specs.Steps.{step_of};
@@ -45,8 +46,7 @@ pub fn obtain_upcall(
     park: &mut Park,
     outs: &mut Outboxes,
 ) -> Outcome
-    requires home { AreOurs setup.now kernel vpes.old }
-    requires vpe { kernel_of_spec setup.now vpe ≡ kernel }
+    requires can { CanTell setup.now kernel vpe vpes.old outs.old }
     requires owner { place_owner_spec setup.now place < setup.now.kernels }
     requires target { IsValidTarget target }
     requires source { IfSome
@@ -54,7 +54,6 @@ pub fn obtain_upcall(
         (IsGivable caps.old) }
     requires free { IsUnusedNumber caps.old park.old place }
     requires spare { 0 < caps.old.spare }
-    requires sends { CanSend setup.now outs.old }
     ensures row { (s : Side) →
         step_of result
         (with_caps_vpes_parks_outs caps.new.caps vpes.new.rows park.new outs.new.boxes s)
@@ -108,8 +107,7 @@ fn consent(
     park: &mut Park,
     outs: &mut Outboxes,
 ) -> Option<(Key, Key)>
-    requires home { AreOurs setup.now kernel vpes.old }
-    requires vpe { kernel_of_spec setup.now vpe ≡ kernel }
+    requires can { CanTell setup.now kernel vpe vpes.old outs.old }
     requires owner { place_owner_spec setup.now place < setup.now.kernels }
     requires target { IsValidTarget target }
     requires source { IfSome
@@ -118,7 +116,6 @@ fn consent(
     requires free { (kind : Kind) → kernel_of_spec setup.now place.vpe ≡ kernel →
         cap_of caps.old.caps (keyed_spec place kind) ≡ None }
     requires spare { 0 < caps.old.spare }
-    requires sends { CanSend setup.now outs.old }
     ensures row { (s : Side) →
         step_of (record { asked = None; grant = result; cut = None; reply = None })
         (with_caps_vpes_parks_outs caps.new.caps vpes.new.rows park.new outs.new.boxes s)

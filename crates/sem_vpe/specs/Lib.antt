@@ -1,3 +1,4 @@
 pub mod VpeTable
 pub mod Starting
 pub mod Stored
+pub mod Telling

@@ -6,6 +6,6 @@ use Rattle.sem_obtain.proofs.answers.obtain_answer.Goals as goal
 pub returns-then-not-alive-clause-left : goal.returns-then-not-alive-clause-left
 returns-then-not-alive-clause-left c = record {
   boxes = boxes-sent c.args.setup.now c.args.outs.now c.send.new.self c.owner_of.result _
-      (omega (arith, c.owner_of.ensures, c.requires.owner, c.requires.sends.boxes)) c.send.ensures.boxes c.requires.sends.boxes;
+      (omega (arith, c.owner_of.ensures, c.requires.owner, c.requires.can.sends.boxes)) c.send.ensures.boxes c.requires.can.sends.boxes;
   spare = search rules;
 }

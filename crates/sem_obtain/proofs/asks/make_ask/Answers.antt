@@ -25,7 +25,7 @@ unreachable-requires-in_default-promise c =
 
 pub send-requires-clause-to_kernel : goal.send-requires-clause-to_kernel
 send-requires-clause-to_kernel c =
-    omega (arith, c.declared_kernel-owner.ensures.below, c.requires.sends.boxes)
+    omega (arith, c.declared_kernel-owner.ensures.below, c.requires.can.tells.sends.boxes)
 
 -- there are as many outboxes after a message was sent
 pub returns-else-owner-kernel-clause-left : goal.returns-else-owner-kernel-clause-left
@@ -33,7 +33,7 @@ returns-else-owner-kernel-clause-left c = record {
   boxes = boxes-sent c.args.setup.now c.args.outs.now c.send.new.self c.declared_kernel-owner.result _ (omega (
     arith,
     c.declared_kernel-owner.ensures.below,
-    c.requires.sends.boxes,
-  )) c.send.ensures.boxes c.requires.sends.boxes;
+    c.requires.can.tells.sends.boxes,
+  )) c.send.ensures.boxes c.requires.can.tells.sends.boxes;
   spare = search rules;
 }

@@ -22,21 +22,29 @@ pub gate_call-requires-clause-free : goal.gate_call-requires-clause-free
 gate_call-requires-clause-free c = next-absent c.args.setup.now c.requires.can.are.setup c.args.kernel c.requires.can.are.is_one
     (side_of c.args.self.now) c.requires.can.are.sound c.args.vpe
 
-pub obtain_call-requires-clause-declared : goal.obtain_call-requires-clause-declared
-obtain_call-requires-clause-declared c = declared-here c.args.setup.now c.requires.can.are.setup c.args.kernel c.requires.can.are.is_one c.args.vpe c.requires.can.here
+pub obtain_call-requires : goal.obtain_call-requires
+obtain_call-requires c =
+    let declared = declared-here c.args.setup.now c.requires.can.are.setup c.args.kernel c.requires.can.are.is_one c.args.vpe c.requires.can.here in
+    search (rules, declared)
 
-pub open_call-requires-clause-declared : goal.open_call-requires-clause-declared
-open_call-requires-clause-declared c = declared-here c.args.setup.now c.requires.can.are.setup c.args.kernel c.requires.can.are.is_one c.args.vpe c.requires.can.here
+pub open_call-requires : goal.open_call-requires
+open_call-requires c =
+    let declared = declared-here c.args.setup.now c.requires.can.are.setup c.args.kernel c.requires.can.are.is_one c.args.vpe c.requires.can.here in
+    search (rules, declared)
 
-pub offer_call-requires-clause-declared : goal.offer_call-requires-clause-declared
-offer_call-requires-clause-declared c = declared-here c.args.setup.now c.requires.can.are.setup c.args.kernel c.requires.can.are.is_one c.args.vpe c.requires.can.here
+pub offer_call-requires-clause-can : goal.offer_call-requires-clause-can
+offer_call-requires-clause-can c =
+    let declared = declared-here c.args.setup.now c.requires.can.are.setup c.args.kernel c.requires.can.are.is_one c.args.vpe c.requires.can.here in
+    search (rules, declared)
 
 pub offer_call-requires-clause-session : goal.offer_call-requires-clause-session
 offer_call-requires-clause-session c = own-sound c.args.setup.now c.requires.can.are.setup c.args.kernel c.requires.can.are.is_one
     (side_of c.args.self.now) c.requires.can.are.sound c.args.vpe c.in-AskOffer.session (λ p. IsSoundObject c.args.setup.now p.object) (λ p among sound. sound.object)
 
-pub delegate_call-requires-clause-declared : goal.delegate_call-requires-clause-declared
-delegate_call-requires-clause-declared c = declared-here c.args.setup.now c.requires.can.are.setup c.args.kernel c.requires.can.are.is_one c.args.vpe c.requires.can.here
+pub delegate_call-requires-clause-can : goal.delegate_call-requires-clause-can
+delegate_call-requires-clause-can c =
+    let declared = declared-here c.args.setup.now c.requires.can.are.setup c.args.kernel c.requires.can.are.is_one c.args.vpe c.requires.can.here in
+    search (rules, declared)
 
 pub delegate_call-requires-clause-valid : goal.delegate_call-requires-clause-valid
 delegate_call-requires-clause-valid c = own-sound c.args.setup.now c.requires.can.are.setup c.args.kernel c.requires.can.are.is_one

@@ -8,10 +8,11 @@ use Rattle.sem_kernel.proofs.Expected.{obtain_req-expected, obtain_no-expected, 
 use Rattle.sem_kernel.proofs.Expected.{obtain_ok-expected, delegate_req-expected, delegate_prepared-expected, ack-expected}
 use Rattle.sem_kernel.proofs.stores.Stores.handle.Goals as goal
 
-pub obtain_request-requires-clause-vpe : goal.obtain_request-requires-clause-vpe
-obtain_request-requires-clause-vpe c =
-    (obtain_req-expected c.args.setup.now c.args.kernel (side_of c.args.self.now) c.in-ObtainReq.place c.in-ObtainReq.target
-    (ap (is_stray c.args.setup.now c.args.kernel (side_of c.args.self.now)) (sym c.in-ObtainReq.is) ∙ c.requires.can.expected)).0
+pub obtain_request-requires-clause-can : goal.obtain_request-requires-clause-can
+obtain_request-requires-clause-can c =
+    let here = (obtain_req-expected c.args.setup.now c.args.kernel (side_of c.args.self.now) c.in-ObtainReq.place c.in-ObtainReq.target
+    (ap (is_stray c.args.setup.now c.args.kernel (side_of c.args.self.now)) (sym c.in-ObtainReq.is) ∙ c.requires.can.expected)).0 in
+    search (rules, here)
 
 pub obtain_request-requires-clause-other : goal.obtain_request-requires-clause-other
 obtain_request-requires-clause-other c =
@@ -39,44 +40,52 @@ delegate_refused-requires-clause-waits c =
     (delegate_no-expected c.args.setup.now c.args.kernel (side_of c.args.self.now) c.in-DelegateNo.parent c.in-DelegateNo.code
     (ap (is_stray c.args.setup.now c.args.kernel (side_of c.args.self.now)) (sym c.in-DelegateNo.is) ∙ c.requires.can.expected)).1
 
-pub obtain_answer-requires-clause-vpe : goal.obtain_answer-requires-clause-vpe
-obtain_answer-requires-clause-vpe c =
-    (obtain_ok-expected c.args.setup.now c.args.kernel (side_of c.args.self.now) c.in-ObtainOk.parent c.in-ObtainOk.key c.in-ObtainOk.object
-    (ap (is_stray c.args.setup.now c.args.kernel (side_of c.args.self.now)) (sym c.in-ObtainOk.is) ∙ c.requires.can.expected)).0
+pub obtain_answer-requires-clause-can : goal.obtain_answer-requires-clause-can
+obtain_answer-requires-clause-can c =
+    let here = (obtain_ok-expected c.args.setup.now c.args.kernel (side_of c.args.self.now) c.in-ObtainOk.parent c.in-ObtainOk.key c.in-ObtainOk.object
+    (ap (is_stray c.args.setup.now c.args.kernel (side_of c.args.self.now)) (sym c.in-ObtainOk.is) ∙ c.requires.can.expected)).0 in
+    search (rules, here)
 
 pub obtain_answer-requires-clause-owner : goal.obtain_answer-requires-clause-owner
 obtain_answer-requires-clause-owner c = declared-below c.args.setup.now c.requires.can.are.setup c.in-ObtainOk.parent.pe c.in-ObtainOk.parent.vpe
     (obtain_ok-expected c.args.setup.now c.args.kernel (side_of c.args.self.now) c.in-ObtainOk.parent c.in-ObtainOk.key c.in-ObtainOk.object
     (ap (is_stray c.args.setup.now c.args.kernel (side_of c.args.self.now)) (sym c.in-ObtainOk.is) ∙ c.requires.can.expected)).1
 
-pub delegate_request-requires-clause-vpe : goal.delegate_request-requires-clause-vpe
-delegate_request-requires-clause-vpe c =
-    (delegate_req-expected c.args.setup.now c.args.kernel (side_of c.args.self.now) c.in-DelegateReq.parent c.in-DelegateReq.object
-    c.in-DelegateReq.vpe c.in-DelegateReq.sel (ap (is_stray c.args.setup.now c.args.kernel (side_of c.args.self.now)) (sym c.in-DelegateReq.is) ∙ c.requires.can.expected)).0
+pub delegate_request-requires-clause-can : goal.delegate_request-requires-clause-can
+delegate_request-requires-clause-can c =
+    let here = (delegate_req-expected c.args.setup.now c.args.kernel (side_of c.args.self.now) c.in-DelegateReq.parent c.in-DelegateReq.object
+    c.in-DelegateReq.vpe c.in-DelegateReq.sel
+    (ap (is_stray c.args.setup.now c.args.kernel (side_of c.args.self.now)) (sym c.in-DelegateReq.is) ∙ c.requires.can.expected)).0 in
+    search (rules, here)
 
 pub delegate_request-requires-clause-other : goal.delegate_request-requires-clause-other
 delegate_request-requires-clause-other c =
     (delegate_req-expected c.args.setup.now c.args.kernel (side_of c.args.self.now) c.in-DelegateReq.parent c.in-DelegateReq.object
-    c.in-DelegateReq.vpe c.in-DelegateReq.sel (ap (is_stray c.args.setup.now c.args.kernel (side_of c.args.self.now)) (sym c.in-DelegateReq.is) ∙ c.requires.can.expected)).1
+    c.in-DelegateReq.vpe c.in-DelegateReq.sel
+    (ap (is_stray c.args.setup.now c.args.kernel (side_of c.args.self.now)) (sym c.in-DelegateReq.is) ∙ c.requires.can.expected)).1
 
 pub delegate_request-requires-clause-owner : goal.delegate_request-requires-clause-owner
 delegate_request-requires-clause-owner c = declared-below c.args.setup.now c.requires.can.are.setup c.in-DelegateReq.parent.pe c.in-DelegateReq.parent.vpe
     (delegate_req-expected c.args.setup.now c.args.kernel (side_of c.args.self.now) c.in-DelegateReq.parent c.in-DelegateReq.object
-    c.in-DelegateReq.vpe c.in-DelegateReq.sel (ap (is_stray c.args.setup.now c.args.kernel (side_of c.args.self.now)) (sym c.in-DelegateReq.is) ∙ c.requires.can.expected)).2
+    c.in-DelegateReq.vpe c.in-DelegateReq.sel
+    (ap (is_stray c.args.setup.now c.args.kernel (side_of c.args.self.now)) (sym c.in-DelegateReq.is) ∙ c.requires.can.expected)).2
 
-pub delegate_prepared-requires-clause-vpe : goal.delegate_prepared-requires-clause-vpe
-delegate_prepared-requires-clause-vpe c =
-    (delegate_prepared-expected c.args.setup.now c.args.kernel (side_of c.args.self.now) c.in-DelegatePrepared.parent c.in-DelegatePrepared.key
-    (ap (is_stray c.args.setup.now c.args.kernel (side_of c.args.self.now)) (sym c.in-DelegatePrepared.is) ∙ c.requires.can.expected)).0
+pub delegate_prepared-requires-clause-can : goal.delegate_prepared-requires-clause-can
+delegate_prepared-requires-clause-can c =
+    let here = (delegate_prepared-expected c.args.setup.now c.args.kernel (side_of c.args.self.now) c.in-DelegatePrepared.parent c.in-DelegatePrepared.key
+    (ap (is_stray c.args.setup.now c.args.kernel (side_of c.args.self.now)) (sym c.in-DelegatePrepared.is) ∙ c.requires.can.expected)).0 in
+    search (rules, here)
 
 pub delegate_prepared-requires-clause-owner : goal.delegate_prepared-requires-clause-owner
 delegate_prepared-requires-clause-owner c = declared-below c.args.setup.now c.requires.can.are.setup c.in-DelegatePrepared.key.pe c.in-DelegatePrepared.key.vpe
     (delegate_prepared-expected c.args.setup.now c.args.kernel (side_of c.args.self.now) c.in-DelegatePrepared.parent c.in-DelegatePrepared.key
     (ap (is_stray c.args.setup.now c.args.kernel (side_of c.args.self.now)) (sym c.in-DelegatePrepared.is) ∙ c.requires.can.expected)).1
 
-pub ack-requires-clause-vpe : goal.ack-requires-clause-vpe
-ack-requires-clause-vpe c = ack-expected c.args.setup.now c.args.kernel (side_of c.args.self.now) c.in-Ack.key c.in-Ack.yes
-    (ap (is_stray c.args.setup.now c.args.kernel (side_of c.args.self.now)) (sym c.in-Ack.is) ∙ c.requires.can.expected)
+pub ack-requires-clause-can : goal.ack-requires-clause-can
+ack-requires-clause-can c =
+    let here = ack-expected c.args.setup.now c.args.kernel (side_of c.args.self.now) c.in-Ack.key c.in-Ack.yes
+    (ap (is_stray c.args.setup.now c.args.kernel (side_of c.args.self.now)) (sym c.in-Ack.is) ∙ c.requires.can.expected) in
+    search (rules, here)
 
 pub ack-requires-clause-holds : goal.ack-requires-clause-holds
 ack-requires-clause-holds c = can-hold c.args.setup.now c.requires.can.are.setup c.args.kernel c.requires.can.are.is_one
