@@ -28,7 +28,8 @@ pub fn grants_are_told()
 /// across kernels, two for each delegate and one more for each prepared one, two for each request
 /// to revoke, and one for each orphan and unlink.
 pub fn messages_are_counted()
-    ensures counted { Always (λ T J. IsIdle (world_after T J) → length (all_sent J) ≡ messages_made J) }
+    ensures counted { Always (λ T J. IsIdle (world_after T J)
+        → length (all_sent J) ≡ messages_made J) }
 {}
 
 /// After every schedule, idle or not, no more requests to revoke were sent than grants were made

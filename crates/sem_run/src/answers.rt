@@ -27,7 +27,8 @@ const REPORT_BYTES: usize = 134_217_728;
 /// Checks the report in the input. The response answers the question if the report is accepted, and
 /// otherwise is the line of its verdict.
 pub fn answer<S: Source>(alloc: Global, question: Question, input: &mut S) -> Response
-    ensures { Responds (input_given S.left S.faults (Some (Ask question)) input.old input.new) result }
+    ensures { Responds
+        (input_given S.left S.faults (Some (Ask question)) input.old input.new) result }
 {
     let bytes = match read_all(alloc, input, REPORT_BYTES) {
         Ok(bytes) => bytes,

@@ -44,7 +44,8 @@ pub struct Run {
 
 /// Runs the trace in the input, on one thread.
 pub fn run_trace<S: Source>(alloc: Global, seed: u64, input: &mut S) -> Response
-    ensures { Responds (input_given S.left S.faults (Some (RunCommand seed)) input.old input.new) result }
+    ensures { Responds
+        (input_given S.left S.faults (Some (RunCommand seed)) input.old input.new) result }
 {
     match read_setup(alloc, input) {
         Ok(setup) => {

@@ -25,7 +25,8 @@ pub fn thread_trace<R: Threads + Wait + Sync, S: Source, G: Gate + Sync>(
     input: &mut S,
     gate: &G,
 ) -> Response
-    ensures { Responds (input_given S.left S.faults (Some (InThreads seed)) input.old input.new) result }
+    ensures { Responds
+        (input_given S.left S.faults (Some (InThreads seed)) input.old input.new) result }
 {
     match read_setup(alloc, input) {
         Ok(setup) => {
