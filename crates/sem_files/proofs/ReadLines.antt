@@ -1,28 +1,23 @@
 -- One line more is read.
 use Rattle.std.proofs.Common.{◌≡◌, ℕ, Bool, true, false, cond, List, [], ◌∷◌, ◌++◌, map, Option, Some, None, refl, ap, sym, subst, ◌∙◌}
 use Rattle.std.specs.List.{filter_map, cons_option}
-use Rattle.sem_trace.specs.LineErrors.{Stops}
-use Rattle.sem_trace.specs.declared.fault.Cause.{Cause}
 use Rattle.sem_trace.specs.declared.fault.LineFault.{LineFault}
 use Rattle.sem_trace.specs.declared.fault.Cause.TheVariants.{TooMany}
-use Rattle.sem_trace.specs.TextLines.{words_of, is_significant, bytes_fault}
 use Rattle.sem_trace.specs.Forms.{word_fault, whole_line}
 use Rattle.sem_trace.specs.Declarations.{number_at}
 use Rattle.sem_files.specs.declared.lines.FileLine.{FileLine}
 use Rattle.sem_files.specs.declared.lines.FileLine.TheVariants.{Kernels, File, Client, Do, End}
 use Rattle.sem_files.specs.declared.reader.Stage.{Stage}
 use Rattle.sem_files.specs.declared.reader.Stage.TheVariants.{Start, Named, Open, Ended}
-use Rattle.sem_trace.specs.declared.line_error.LineError.{LineError}
-use Rattle.sem_trace.specs.declared.line_error.LineError.TheVariants.{Refused, Memory}
 use Rattle.sem_files.specs.declared.tables.Tables.{Tables}
 use Rattle.sem_files.specs.Files.{Files}
 use Rattle.sem_files.specs.FileForms.{first_form, second_form, form}
 use Rattle.sem_files.specs.Said.{said, files_of, said_file, said_client, said_command, is_end, is_ended}
 use Rattle.sem_files.specs.FileContext.{context_fault}
-use Rattle.sem_files.specs.FileRefusal.{body_fault, words_fault, line_fault}
+use Rattle.sem_files.specs.FileRefusal.{body_fault, words_fault}
 use Rattle.sem_files.specs.OneMore.{with_file_line}
 use Rattle.sem_files.specs.Tells.{files_in}
-use Rattle.sem_files.specs.Reads.{IsOpened, IsReadTo, with_significant}
+use Rattle.sem_files.specs.Reads.{IsOpened, IsReadTo}
 use Rattle.sem_files.proofs.Lists.{any_more}
 
 -- What is said with one line more.
@@ -157,34 +152,3 @@ unfolding words_fault body_fault
 ended_refused stage lines words t at read =
     let ended : IsOpened lines t true = subst (λ (s : Stage). IsReadTo s lines t) at read in
     rw (ended.are, ended.last) refl
-
--- Any line.
-
--- a line whose bytes are bad
-pub bad_bytes : (lines : List (List (List ℕ))) (line : List ℕ) (cause : Cause) → bytes_fault line ≡ Some cause →
-    line_fault lines line ≡ Some (whole_line cause)
-unfolding line_fault
-bad_bytes lines line cause fault = rw fault refl
-
--- a line that says nothing
-pub skipped : (lines : List (List (List ℕ))) (line : List ℕ) (P : List (List (List ℕ)) → Type 0) → bytes_fault line ≡ None →
-    is_significant (words_of line) ≡ false → P lines → (line_fault lines line ≡ None) × P (with_significant lines line)
-unfolding line_fault
-skipped lines line P fits nothing holds = (rw (fits, nothing) refl, rw nothing holds)
-
--- a line that says something
-pub says : (lines : List (List (List ℕ))) (line : List ℕ) (P : List (List (List ℕ)) → Type 0) → bytes_fault line ≡ None →
-    is_significant (words_of line) ≡ true → (words_fault lines (words_of line) ≡ None) × P (lines ++ words_of line ∷ []) →
-    (line_fault lines line ≡ None) × P (with_significant lines line)
-unfolding line_fault
-says lines line P fits something holds = (rw (fits, something) holds.0, rw something holds.1)
-
-pub refused : (lines : List (List (List ℕ))) (line : List ℕ) (cause : LineFault) → bytes_fault line ≡ None → is_significant (words_of line) ≡ true →
-    words_fault lines (words_of line) ≡ Some cause → line_fault lines line ≡ Some cause
-unfolding line_fault
-refused lines line cause fits something fault = rw (fits, something) fault
-
--- what is wrong with a line, for another reason
-pub stops_weaker : (P Q : LineFault → Type 0) → ((cause : LineFault) → P cause → Q cause) → (e : LineError) → Stops P e → Stops Q e
-stops_weaker P Q more (Refused cause) stops = more cause stops
-stops_weaker P Q more Memory stops = tt

@@ -1,16 +1,16 @@
 -- Which texts of file commands are refused, at which line and word and why ("File commands" in
 -- docs/texts.md).
-use Rattle.std.specs.Prelude.{ℕ, ◌+◌, nat_lt, List, [], ◌∷◌, length, take, drop, map, slice_index_or, Option, Some}
-use Rattle.std.specs.Prelude.{None, option_map, if◌then◌else◌}
+use Rattle.std.specs.Prelude.{ℕ, ◌+◌, nat_lt, List, [], ◌∷◌, length, drop, map, Option, Some, None}
+use Rattle.std.specs.Prelude.{if◌then◌else◌}
 use Rattle.std.specs.Option.{option_or}
 use Rattle.sem_trace.specs.declared.fault.LineFault.{LineFault}
 use Rattle.sem_trace.specs.declared.fault.Cause.TheVariants.{Missing, TooMany, InputTooLong}
 use Rattle.sem_trace.specs.declared.fault.TraceFault.{TraceFault}
-use Rattle.sem_trace.specs.TextLines.{lines_of, words_of, is_significant, significant, bytes_fault}
+use Rattle.sem_trace.specs.TextLines.{lines_of, significant}
 use Rattle.sem_trace.specs.Forms.{word_fault, whole_line}
 use Rattle.sem_trace.specs.Declarations.{number_at}
 use Rattle.sem_trace.specs.Earlier.{first_some}
-use Rattle.sem_trace.specs.Refusal.{numbers}
+use Rattle.sem_trace.specs.Refusal.{line_fault_by, numbers, fault_by}
 use Rattle.sem_files.specs.declared.lines.FileLine.{FileLine}
 use Rattle.sem_files.specs.FileForms.{first_form, second_form, form}
 use Rattle.sem_files.specs.Said.{said, files_of, is_ended}
@@ -32,23 +32,15 @@ words_fault (first ∷ second ∷ earlier) words = body_fault (number_at second 
 
 -- what is wrong with a line after such lines
 unfoldable pub line_fault : List (List (List ℕ)) → List ℕ → Option LineFault
-line_fault earlier line =
-    option_or (option_map whole_line (bytes_fault line))
-    (if is_significant (words_of line) then words_fault earlier (words_of line) else None)
+line_fault earlier line = line_fault_by words_fault earlier line
 
 -- the fault of the line at a place, counted from 0, after all lines before it
 unfoldable pub fault_at : List (List ℕ) → ℕ → Option TraceFault
-fault_at lines i =
-    option_map (λ fault. record { line = i + 1; word = fault.word; cause = fault.cause })
-    (line_fault (significant (take i lines)) (slice_index_or lines i []))
+fault_at lines i = fault_by line_fault lines i
 
 -- the first fault of a line
 unfoldable pub first_fault : List (List ℕ) → Option TraceFault
 first_fault lines = first_some (fault_at lines) (numbers (length lines))
-
--- how many kernels the lines declare
-unfoldable pub kernels_of : List (List ℕ) → ℕ
-kernels_of lines = number_at (slice_index_or (significant lines) 1 []) 1
 
 -- what the lines after the second say
 unfoldable pub said_by : List (List ℕ) → List FileLine
@@ -60,9 +52,12 @@ end_fault lines =
     if is_ended (said_by lines) then None
     else Some (record { line = length lines + 1; word = None; cause = Missing })
 
--- the refusal of a text, if it is refused: that it is too long, or that of its first bad line, or
--- that the last line is missing
+-- the refusal of lines: that of the first bad one, or that the last line is missing
+abbrev pub lines_refusal : List (List ℕ) → Option TraceFault
+lines_refusal lines = option_or (first_fault lines) (end_fault lines)
+
+-- the refusal of a text, if it is refused: that it is too long, or that of its lines
 unfoldable pub refusal : List ℕ → Option TraceFault
 refusal bytes =
     if nat_lt 8388608 (length bytes) then Some (record { line = 0; word = None; cause = InputTooLong })
-    else option_or (first_fault (lines_of bytes)) (end_fault (lines_of bytes))
+    else lines_refusal (lines_of bytes)

@@ -1,17 +1,13 @@
 -- What the reader keeps of the lines so far that say something, each as its words.
-use Rattle.std.specs.Prelude.{◌≡◌, ℕ, ◌+◌, ◌≤◌, Bool, true, false, List, [], ◌∷◌, ◌++◌, length, map, Option, None}
-use Rattle.std.specs.Prelude.{Some, if◌then◌else◌}
-use Rattle.std.specs.Option.{option_or}
+use Rattle.std.specs.Prelude.{◌≡◌, ℕ, Bool, true, false, List, [], ◌∷◌, ◌++◌, map, None, Some}
 use Rattle.sem_trace.specs.declared.fault.LineFault.{LineFault}
-use Rattle.sem_trace.specs.declared.fault.TraceFault.{TraceFault}
-use Rattle.sem_trace.specs.TextLines.{lines_of, words_of, is_significant, significant}
+use Rattle.sem_trace.specs.TextLines.{with_significant}
 use Rattle.sem_trace.specs.Declarations.{number_at}
-use Rattle.sem_trace.specs.Earlier.{first_some}
-use Rattle.sem_trace.specs.Refusal.{numbers}
+use Rattle.sem_trace.specs.Refusal.{kernels_of}
+use Rattle.sem_trace.specs.LinesRead.{AreRead}
 use Rattle.sem_files.specs.Files.{Files}
 use Rattle.sem_files.specs.Said.{said, files_of, is_ended}
-use Rattle.sem_files.specs.FileRefusal.{words_fault, line_fault, fault_at, first_fault, end_fault, kernels_of}
-use Rattle.sem_files.specs.FileRefusal.{said_by}
+use Rattle.sem_files.specs.FileRefusal.{words_fault, line_fault, said_by, lines_refusal}
 use Rattle.sem_files.specs.declared.reader.Stage.{Stage}
 use Rattle.sem_files.specs.declared.reader.Stage.TheVariants.{Start, Named, Open, Ended}
 use Rattle.sem_files.specs.declared.reader.Reader.{Reader}
@@ -34,48 +30,34 @@ IsReadTo Open lines t = IsOpened lines t false
 IsReadTo Ended lines t = IsOpened lines t true
 
 -- the reader has read these lines and found nothing wrong with any
-abbrev pub IsRead : List (List (List ℕ)) → Reader → Type 0
-IsRead lines r = IsReadTo r.stage lines r.tables
+abbrev pub IsRead : Reader → List (List (List ℕ)) → Type 0
+IsRead r lines = IsReadTo r.stage lines r.tables
 
 -- nothing is wrong with a line of these words, and the reader has read it too
 abbrev pub Accepts : List (List ℕ) → Reader → Reader → Type 0
 Accepts words old new =
-    (lines : List (List (List ℕ))) → IsRead lines old
-    → (words_fault lines words ≡ None) × IsRead (lines ++ words ∷ []) new
+    (lines : List (List (List ℕ))) → IsRead old lines
+    → (words_fault lines words ≡ None) × IsRead new (lines ++ words ∷ [])
 
 -- the fault is what is wrong with a line of these words
 abbrev pub Refuses : List (List ℕ) → Reader → LineFault → Type 0
 Refuses words old fault =
-    (lines : List (List (List ℕ))) → IsRead lines old → words_fault lines words ≡ Some fault
-
--- the lines, and the line too, if it says something
-abbrev pub with_significant : List (List (List ℕ)) → List ℕ → List (List (List ℕ))
-with_significant lines line =
-    if is_significant (words_of line) then lines ++ words_of line ∷ [] else lines
+    (lines : List (List (List ℕ))) → IsRead old lines → words_fault lines words ≡ Some fault
 
 -- the same for a line that may say nothing
 abbrev pub AcceptsLine : List ℕ → Reader → Reader → Type 0
 AcceptsLine line old new =
-    (lines : List (List (List ℕ))) → IsRead lines old
-    → (line_fault lines line ≡ None) × IsRead (with_significant lines line) new
+    (lines : List (List (List ℕ))) → IsRead old lines
+    → (line_fault lines line ≡ None) × IsRead new (with_significant lines line)
 
 abbrev pub RefusesLine : List ℕ → Reader → LineFault → Type 0
 RefusesLine line old fault =
-    (lines : List (List (List ℕ))) → IsRead lines old → line_fault lines line ≡ Some fault
+    (lines : List (List (List ℕ))) → IsRead old lines → line_fault lines line ≡ Some fault
 
--- All lines of a text but those that are left are read, and nothing was wrong with any of them.
+-- the reader has read all lines of the text but those that are left
 pub record IsReadUpTo (bytes : List ℕ) (left : List (List ℕ)) (number : ℕ) (r : Reader) : Type 0 where
-  pub before : List (List ℕ)
-  pub lines : lines_of bytes ≡ before ++ left
-  pub count : number ≡ length before
-  pub fine : first_some (fault_at (lines_of bytes)) (numbers number) ≡ None
-  pub read : IsRead (significant before) r
+  pub lines : AreRead line_fault (IsRead r) bytes left number
   pub tells : Tells r.tables
-  pub room : number + length left ≤ length bytes
-
--- the refusal of lines: that of the first bad one, or that the last line is missing
-abbrev pub lines_refusal : List (List ℕ) → Option TraceFault
-lines_refusal lines = option_or (first_fault lines) (end_fault lines)
 
 -- the lines are not refused, and they say the commands
 pub record Say (lines : List (List ℕ)) (F : Files) : Type 0 where

@@ -3,11 +3,11 @@ ghost use Rattle.sem_trace.specs.LineErrors.{Stops};
 ghost use Rattle.sem_trace.specs.TextLines.{lines_of, words_of};
 ghost use Rattle.sem_trace.specs.SetupOfText.{IsWhy};
 ghost use Rattle.sem_files.specs.Said.{is_end};
-ghost use Rattle.sem_files.specs.FileRefusal.{first_fault, refusal};
+ghost use Rattle.sem_files.specs.FileRefusal.{first_fault, lines_refusal, refusal};
 ghost use Rattle.sem_files.specs.FilesOfText.{FilesStand};
 ghost use Rattle.sem_files.specs.Tells.{Tells, files_in};
 ghost use Rattle.sem_files.specs.Reads.{Accepts, Refuses, AcceptsLine, RefusesLine};
-ghost use Rattle.sem_files.specs.Reads.{IsReadUpTo, lines_refusal, Say};
+ghost use Rattle.sem_files.specs.Reads.{IsReadUpTo, Say};
 
 use crate::files::Files;
 use crate::forms::{read_first, read_line};

@@ -9,4 +9,5 @@ pub mod EntryFrom
 pub mod OneEntry
 pub mod PlainEntries
 pub mod PartSteps
+pub mod NamedParts
 pub mod MessageNames

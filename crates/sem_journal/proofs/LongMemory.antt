@@ -106,27 +106,7 @@ long_event version kernels kernel (Resume v) Nothing g k r fits = no_message (de
 long_event version kernels kernel (Flush to) (Carried peer message) g k r fits =
     long_message version (decimal kernel) (codes "flush") (decimal peer) peer message g k r fits.2
 long_event version kernels kernel (Kill v) Nothing g k r fits = no_message (decimal kernel) (codes "kill") (decimal v) g k r
-long_event version kernels kernel (Calls v) (Carried peer message) g k r fits = absurd fits
-long_event version kernels kernel (Calls v) (Asked asker answer) g k r fits = absurd fits
-long_event version kernels kernel (Calls v) Nothing g k r fits = absurd fits
-long_event version kernels kernel (Fetch from) (Called index call) g k r fits = absurd fits
-long_event version kernels kernel (Fetch from) (Asked asker answer) g k r fits = absurd fits
-long_event version kernels kernel (Fetch from) Nothing g k r fits = absurd fits
-long_event version kernels kernel Handle (Called index call) g k r fits = absurd fits
-long_event version kernels kernel Handle (Asked asker answer) g k r fits = absurd fits
-long_event version kernels kernel Handle Nothing g k r fits = absurd fits
-long_event version kernels kernel (Upcall v) (Called index call) g k r fits = absurd fits
-long_event version kernels kernel (Upcall v) (Carried peer message) g k r fits = absurd fits
-long_event version kernels kernel (Upcall v) Nothing g k r fits = absurd fits
-long_event version kernels kernel (Resume v) (Called index call) g k r fits = absurd fits
-long_event version kernels kernel (Resume v) (Carried peer message) g k r fits = absurd fits
-long_event version kernels kernel (Resume v) (Asked asker answer) g k r fits = absurd fits
-long_event version kernels kernel (Flush to) (Called index call) g k r fits = absurd fits
-long_event version kernels kernel (Flush to) (Asked asker answer) g k r fits = absurd fits
-long_event version kernels kernel (Flush to) Nothing g k r fits = absurd fits
-long_event version kernels kernel (Kill v) (Called index call) g k r fits = absurd fits
-long_event version kernels kernel (Kill v) (Carried peer message) g k r fits = absurd fits
-long_event version kernels kernel (Kill v) (Asked asker answer) g k r fits = absurd fits
+long_event version kernels kernel act detail g k r fits = absurd fits
 
 -- whether an entry carries such memory
 pub long_entry : (version kernels : ℕ) (e : Entry) → EventFits version kernels e.event.act e.detail → has_long_memory (entry_words e) ≡ carries_long e.detail
@@ -153,10 +133,7 @@ place_event : (version kernels kernel peer : ℕ) (act : Act) (m : Message) (g :
 place_event version kernels kernel peer (Fetch from) m g k r fits = place_message (decimal kernel) (codes "fetch") (decimal peer) peer m g k r
 place_event version kernels kernel peer Handle m g k r fits = place_message (decimal kernel) (codes "handle") (decimal peer) peer m g k r
 place_event version kernels kernel peer (Flush to) m g k r fits = place_message (decimal kernel) (codes "flush") (decimal peer) peer m g k r
-place_event version kernels kernel peer (Calls v) m g k r fits = absurd fits
-place_event version kernels kernel peer (Upcall v) m g k r fits = absurd fits
-place_event version kernels kernel peer (Resume v) m g k r fits = absurd fits
-place_event version kernels kernel peer (Kill v) m g k r fits = absurd fits
+place_event version kernels kernel peer act m g k r fits = absurd fits
 
 place_detail : (version kernels kernel : ℕ) (act : Act) (detail : Detail) (g : Option (KeyName × KeyName)) (k : Option KeyName) (r : Option Reply) →
     EventFits version kernels act detail → carries_long detail ≡ true →

@@ -191,27 +191,7 @@ event_read version kernels (Flush to) (Carried peer message) rest few fits = (
   rw (small peer (omega (arith, fits.1)), message_read version message rest fits.2) refl,
 )
 event_read version kernels (Kill v) Nothing rest few fits = (rw (node version v fits) refl, refl)
-event_read version kernels (Calls v) (Carried peer message) rest few fits = absurd fits
-event_read version kernels (Calls v) (Asked asker answer) rest few fits = absurd fits
-event_read version kernels (Calls v) Nothing rest few fits = absurd fits
-event_read version kernels (Fetch from) (Called index call) rest few fits = absurd fits
-event_read version kernels (Fetch from) (Asked asker answer) rest few fits = absurd fits
-event_read version kernels (Fetch from) Nothing rest few fits = absurd fits
-event_read version kernels Handle (Called index call) rest few fits = absurd fits
-event_read version kernels Handle (Asked asker answer) rest few fits = absurd fits
-event_read version kernels Handle Nothing rest few fits = absurd fits
-event_read version kernels (Upcall v) (Called index call) rest few fits = absurd fits
-event_read version kernels (Upcall v) (Carried peer message) rest few fits = absurd fits
-event_read version kernels (Upcall v) Nothing rest few fits = absurd fits
-event_read version kernels (Resume v) (Called index call) rest few fits = absurd fits
-event_read version kernels (Resume v) (Carried peer message) rest few fits = absurd fits
-event_read version kernels (Resume v) (Asked asker answer) rest few fits = absurd fits
-event_read version kernels (Flush to) (Called index call) rest few fits = absurd fits
-event_read version kernels (Flush to) (Asked asker answer) rest few fits = absurd fits
-event_read version kernels (Flush to) Nothing rest few fits = absurd fits
-event_read version kernels (Kill v) (Called index call) rest few fits = absurd fits
-event_read version kernels (Kill v) (Carried peer message) rest few fits = absurd fits
-event_read version kernels (Kill v) (Asked asker answer) rest few fits = absurd fits
+event_read version kernels act detail rest few fits = absurd fits
 
 grant_read : (version : ℕ) (g : Option (KeyName × KeyName)) (cut : Option KeyName) (r : Option Reply) → GrantFits version g →
     (grant_from (grant_words g ++ cut_words cut ++ reply_words r) ≡ g)

@@ -168,27 +168,7 @@ event_plain version kernels (Resume v) Nothing few fits behind = name refl (node
 event_plain version kernels (Flush to) (Carried peer message) few fits behind =
     name refl (number peer (omega (arith, fits.1)) (message_plain version message fits.2 behind))
 event_plain version kernels (Kill v) Nothing few fits behind = name refl (node version v fits behind)
-event_plain version kernels (Calls v) (Carried peer message) few fits behind = absurd fits
-event_plain version kernels (Calls v) (Asked asker answer) few fits behind = absurd fits
-event_plain version kernels (Calls v) Nothing few fits behind = absurd fits
-event_plain version kernels (Fetch from) (Called index call) few fits behind = absurd fits
-event_plain version kernels (Fetch from) (Asked asker answer) few fits behind = absurd fits
-event_plain version kernels (Fetch from) Nothing few fits behind = absurd fits
-event_plain version kernels Handle (Called index call) few fits behind = absurd fits
-event_plain version kernels Handle (Asked asker answer) few fits behind = absurd fits
-event_plain version kernels Handle Nothing few fits behind = absurd fits
-event_plain version kernels (Upcall v) (Called index call) few fits behind = absurd fits
-event_plain version kernels (Upcall v) (Carried peer message) few fits behind = absurd fits
-event_plain version kernels (Upcall v) Nothing few fits behind = absurd fits
-event_plain version kernels (Resume v) (Called index call) few fits behind = absurd fits
-event_plain version kernels (Resume v) (Carried peer message) few fits behind = absurd fits
-event_plain version kernels (Resume v) (Asked asker answer) few fits behind = absurd fits
-event_plain version kernels (Flush to) (Called index call) few fits behind = absurd fits
-event_plain version kernels (Flush to) (Asked asker answer) few fits behind = absurd fits
-event_plain version kernels (Flush to) Nothing few fits behind = absurd fits
-event_plain version kernels (Kill v) (Called index call) few fits behind = absurd fits
-event_plain version kernels (Kill v) (Carried peer message) few fits behind = absurd fits
-event_plain version kernels (Kill v) (Asked asker answer) few fits behind = absurd fits
+event_plain version kernels act detail few fits behind = absurd fits
 
 reply_plain : (version : ℕ) (r : Option Reply) → ReplyFits version r → ArePlain (reply_words r)
 reply_plain version None fits = nothing

@@ -81,27 +81,7 @@ event_filled version kernels (Resume v) Nothing some few fits behind = a_name re
 event_filled version kernels (Flush to) (Carried peer message) some few fits behind =
     a_name refl (a_number peer (omega arith) (omega (arith, fits.1)) (omega (arith, fits.1)) (message_filled version message fits.2 behind))
 event_filled version kernels (Kill v) Nothing some few fits behind = a_name refl (a_node version v fits behind)
-event_filled version kernels (Calls v) (Carried peer message) some few fits behind = absurd fits
-event_filled version kernels (Calls v) (Asked asker answer) some few fits behind = absurd fits
-event_filled version kernels (Calls v) Nothing some few fits behind = absurd fits
-event_filled version kernels (Fetch from) (Called index call) some few fits behind = absurd fits
-event_filled version kernels (Fetch from) (Asked asker answer) some few fits behind = absurd fits
-event_filled version kernels (Fetch from) Nothing some few fits behind = absurd fits
-event_filled version kernels Handle (Called index call) some few fits behind = absurd fits
-event_filled version kernels Handle (Asked asker answer) some few fits behind = absurd fits
-event_filled version kernels Handle Nothing some few fits behind = absurd fits
-event_filled version kernels (Upcall v) (Called index call) some few fits behind = absurd fits
-event_filled version kernels (Upcall v) (Carried peer message) some few fits behind = absurd fits
-event_filled version kernels (Upcall v) Nothing some few fits behind = absurd fits
-event_filled version kernels (Resume v) (Called index call) some few fits behind = absurd fits
-event_filled version kernels (Resume v) (Carried peer message) some few fits behind = absurd fits
-event_filled version kernels (Resume v) (Asked asker answer) some few fits behind = absurd fits
-event_filled version kernels (Flush to) (Called index call) some few fits behind = absurd fits
-event_filled version kernels (Flush to) (Asked asker answer) some few fits behind = absurd fits
-event_filled version kernels (Flush to) Nothing some few fits behind = absurd fits
-event_filled version kernels (Kill v) (Called index call) some few fits behind = absurd fits
-event_filled version kernels (Kill v) (Carried peer message) some few fits behind = absurd fits
-event_filled version kernels (Kill v) (Asked asker answer) some few fits behind = absurd fits
+event_filled version kernels act detail some few fits behind = absurd fits
 
 no_more : Leaves [] [] None
 unfolding form_fault

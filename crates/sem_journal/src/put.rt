@@ -1,6 +1,8 @@
 // An entry as words, where there is room for them.
 ghost use Rattle.std.specs.Prelude.{◌≡◌, ◌+◌, ◌<◌, ◌≤◌, [], ◌∷◌, ◌++◌, length, decimal};
 ghost use Rattle.std.specs.Prelude.{vec_len, vec_capacity};
+ghost use Rattle.sem_msg.specs.declared.message.Message.TheVariants.{ObtainReq, ObtainNo};
+ghost use Rattle.sem_msg.specs.declared.message.Message.TheVariants.{DelegateReq, Ack};
 ghost use Rattle.sem_text.specs.Lines.{behind_blanks, line};
 ghost use Rattle.sem_trace.specs.MessageForms.{messages, message_row, name_at};
 ghost use Rattle.sem_trace.specs.Words.{key_word};
@@ -11,7 +13,7 @@ ghost use Rattle.sem_journal.specs.EntryText.{reply_words, entry_words};
 ghost use Rattle.sem_journal.specs.PartValues.{target_kind};
 ghost use Rattle.sem_journal.specs.SpacedWords.{spaced};
 
-use sem_key::Key;
+use sem_key::{Key, Object, Place};
 use sem_msg::{Act, Consent, Detail, Entry, Message, Reply, Target};
 use sem_text::put_number;
 use sem_trace::{
@@ -117,6 +119,67 @@ fn name_of(kind: MessageKind) -> &'static [u8]
     Form::of_message(kind).name.as_bytes()
 }
 
+// Appends the words of a request to obtain, each after a blank.
+#[inline(always)]
+#[tactic(auto, unfolding(sem_trace::specs::MessageForms::messages))]
+fn put_obtain_req(out: &mut Vec<u8>, place: &Place, target: &Target)
+    requires room { vec_len out.old + 107 ≤ vec_capacity out.old }
+    ensures items { out.new.items ≡ out.old.items
+        ++ behind_blanks (message_words (ObtainReq place.now target.now)) }
+    ensures len { vec_len out.new ≤ vec_len out.old + 107 }
+    ensures capacity { vec_capacity out.new ≡ vec_capacity out.old }
+{
+    put_word(out, name_of(MessageKind::ObtainReq));
+    put_place_word(out, place);
+    put_target(out, target);
+}
+
+// Appends the words of a refusal to obtain, each after a blank.
+#[inline(always)]
+#[tactic(auto, unfolding(sem_trace::specs::MessageForms::messages))]
+fn put_obtain_no(out: &mut Vec<u8>, place: &Place, code: u8)
+    requires room { vec_len out.old + 107 ≤ vec_capacity out.old }
+    ensures items { out.new.items ≡ out.old.items
+        ++ behind_blanks (message_words (ObtainNo place.now code)) }
+    ensures len { vec_len out.new ≤ vec_len out.old + 107 }
+    ensures capacity { vec_capacity out.new ≡ vec_capacity out.old }
+{
+    put_word(out, name_of(MessageKind::ObtainNo));
+    put_place_word(out, place);
+    put_number_word(out, u32::from(code));
+}
+
+// Appends the words of a request to delegate, each after a blank.
+#[inline(always)]
+#[tactic(auto, unfolding(sem_trace::specs::MessageForms::messages))]
+fn put_delegate_req(out: &mut Vec<u8>, parent: &Key, object: &Object, vpe: u16, sel: u8)
+    requires room { vec_len out.old + 107 ≤ vec_capacity out.old }
+    ensures items { out.new.items ≡ out.old.items
+        ++ behind_blanks (message_words (DelegateReq parent.now object.now vpe sel)) }
+    ensures len { vec_len out.new ≤ vec_len out.old + 107 }
+    ensures capacity { vec_capacity out.new ≡ vec_capacity out.old }
+{
+    put_word(out, name_of(MessageKind::DelegateReq));
+    put_key_word(out, parent);
+    put_object(out, object);
+    put_numbers(out, &[u32::from(vpe), u32::from(sel)]);
+}
+
+// Appends the words of an acknowledgement, each after a blank.
+#[inline(always)]
+#[tactic(auto, unfolding(sem_trace::specs::MessageForms::messages))]
+fn put_ack(out: &mut Vec<u8>, key: &Key, yes: bool)
+    requires room { vec_len out.old + 107 ≤ vec_capacity out.old }
+    ensures items { out.new.items ≡ out.old.items
+        ++ behind_blanks (message_words (Ack key.now yes)) }
+    ensures len { vec_len out.new ≤ vec_len out.old + 107 }
+    ensures capacity { vec_capacity out.new ≡ vec_capacity out.old }
+{
+    put_word(out, name_of(MessageKind::Ack));
+    put_key_word(out, key);
+    put_yes_or_no(out, yes);
+}
+
 /// Appends the words of the message, each after a blank. There must be room for them.
 #[tactic(auto, unfolding(sem_trace::specs::MessageForms::messages))]
 pub(crate) fn put_message(out: &mut Vec<u8>, message: &Message)
@@ -126,11 +189,7 @@ pub(crate) fn put_message(out: &mut Vec<u8>, message: &Message)
     ensures capacity { vec_capacity out.new ≡ vec_capacity out.old }
 {
     match message {
-        Message::ObtainReq { place, target } => {
-            put_word(out, name_of(MessageKind::ObtainReq));
-            put_place_word(out, place);
-            put_target(out, target);
-        }
+        Message::ObtainReq { place, target } => put_obtain_req(out, place, target),
         Message::ObtainOk {
             parent,
             key,
@@ -139,22 +198,13 @@ pub(crate) fn put_message(out: &mut Vec<u8>, message: &Message)
             put_keys(out, name_of(MessageKind::ObtainOk), parent, key);
             put_object(out, object);
         }
-        Message::ObtainNo { place, code } => {
-            put_word(out, name_of(MessageKind::ObtainNo));
-            put_place_word(out, place);
-            put_number_word(out, u32::from(*code));
-        }
+        Message::ObtainNo { place, code } => put_obtain_no(out, place, *code),
         Message::DelegateReq {
             parent,
             object,
             vpe,
             sel,
-        } => {
-            put_word(out, name_of(MessageKind::DelegateReq));
-            put_key_word(out, parent);
-            put_object(out, object);
-            put_numbers(out, &[u32::from(*vpe), u32::from(*sel)]);
-        }
+        } => put_delegate_req(out, parent, object, *vpe, *sel),
         Message::DelegatePrepared { parent, key } => {
             put_keys(out, name_of(MessageKind::DelegatePrepared), parent, key)
         }
@@ -162,11 +212,7 @@ pub(crate) fn put_message(out: &mut Vec<u8>, message: &Message)
             let name = name_of(MessageKind::DelegateNo);
             put_key_and_number(out, name, parent, u32::from(*code))
         }
-        Message::Ack { key, yes } => {
-            put_word(out, name_of(MessageKind::Ack));
-            put_key_word(out, key);
-            put_yes_or_no(out, *yes);
-        }
+        Message::Ack { key, yes } => put_ack(out, key, *yes),
         Message::Orphan { parent, key } => {
             put_keys(out, name_of(MessageKind::Orphan), parent, key)
         }

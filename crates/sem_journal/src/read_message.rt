@@ -3,10 +3,12 @@
 
 ghost use Rattle.std.specs.Prelude.{◌≡◌, ℕ, ◌≤◌, [], ◌∷◌, length};
 ghost use Rattle.std.specs.List.{All};
+ghost use Rattle.sem_trace.specs.declared.message_forms.MessageKind.TheVariants.{Unlink};
 ghost use Rattle.sem_trace.specs.MessageForms.{objects, object_parts, object_row, targets};
 ghost use Rattle.sem_trace.specs.MessageForms.{target_parts, target_row, messages, message_parts};
 ghost use Rattle.sem_trace.specs.MessageForms.{message_row, name_at};
-ghost use Rattle.sem_trace.specs.Words.{object_words};
+ghost use Rattle.sem_trace.specs.Ranges.{IsKeyInText};
+ghost use Rattle.sem_trace.specs.Words.{key_word, object_words};
 ghost use Rattle.sem_journal.specs.EntryRanges.{ObjectFits, TargetFits, MessageFits};
 ghost use Rattle.sem_journal.specs.EntryText.{target_words, message_words};
 ghost use Rattle.sem_journal.specs.PartValues.{IsPlain, ReadsValue, ReadsValues, ValuesFit};
@@ -74,28 +76,27 @@ fn object_from(kind: Kind, values: &[PartValue; MOST_PARTS]) -> Object
         → ObjectFits version result }
 {
     let [first, second, third, _] = values;
-    match (kind, first, second, third) {
-        (Kind::Mem, PartValue::Number(base), PartValue::Number(len), PartValue::Number(rights)) =>
-            Object::Mem {
-                base: *base as u32,
-                len: *len as u32,
-                rights: *rights as u8,
-            },
-        (Kind::Recv, PartValue::Number(slots), ..) => Object::Recv {
-            slots: *slots as u8,
+    match kind {
+        Kind::Mem => Object::Mem {
+            base: first.number() as u32,
+            len: second.number() as u32,
+            rights: third.number() as u8,
         },
-        (Kind::Send, PartValue::Key(gate), PartValue::Number(label), PartValue::Number(credits)) =>
-            Object::Send {
-                gate: *gate,
-                label: *label as u32,
-                credits: *credits as u8,
-            },
-        (Kind::Serv, PartValue::Number(name), ..) => Object::Serv { name: *name as u8 },
-        (Kind::Sess, PartValue::Key(service), PartValue::Number(ident), _) => Object::Sess {
-            service: *service,
-            ident: *ident as u16,
+        Kind::Recv => Object::Recv {
+            slots: first.number() as u8,
         },
-        _ => unreachable!(),
+        Kind::Send => Object::Send {
+            gate: first.key(),
+            label: second.number() as u32,
+            credits: third.number() as u8,
+        },
+        Kind::Serv => Object::Serv {
+            name: first.number() as u8,
+        },
+        Kind::Sess => Object::Sess {
+            service: first.key(),
+            ident: second.number() as u16,
+        },
     }
 }
 
@@ -120,17 +121,18 @@ fn target_from(kind: TargetKind, values: &[PartValue; MOST_PARTS]) -> Target
         → TargetFits version result }
 {
     let [first, second, ..] = values;
-    match (kind, first, second) {
-        (TargetKind::Sel, PartValue::Number(vpe), PartValue::Number(sel)) => Target::Sel {
-            vpe: *vpe as u16,
-            sel: *sel as u8,
+    match kind {
+        TargetKind::Sel => Target::Sel {
+            vpe: first.number() as u16,
+            sel: second.number() as u8,
         },
-        (TargetKind::Serv, PartValue::Key(service), _) => Target::Serv { service: *service },
-        (TargetKind::Offer, PartValue::Key(service), PartValue::Number(index)) => Target::Offer {
-            service: *service,
-            index: *index as u8,
+        TargetKind::Serv => Target::Serv {
+            service: first.key(),
         },
-        _ => unreachable!(),
+        TargetKind::Offer => Target::Offer {
+            service: first.key(),
+            index: second.number() as u8,
+        },
     }
 }
 
@@ -190,6 +192,22 @@ fn parts(
     Ok(values)
 }
 
+// The message of that kind, which has a parent and a key and nothing else.
+fn of_two_keys(kind: MessageKind, parent: Key, key: Key) -> Message
+    requires { message_parts kind ≡ message_parts Unlink }
+    ensures words { message_words result
+        ≡ name_at (messages 1 []) (message_row kind) ∷ key_word parent ∷ key_word key ∷ [] }
+    ensures fits { (version : ℕ) → IsKeyInText version parent → IsKeyInText version key
+        → MessageFits version result }
+{
+    match kind {
+        MessageKind::DelegatePrepared => Message::DelegatePrepared { parent, key },
+        MessageKind::Orphan => Message::Orphan { parent, key },
+        MessageKind::Unlink => Message::Unlink { parent, key },
+        _ => unreachable!(),
+    }
+}
+
 // The message of that kind with these parts.
 fn message_from(kind: MessageKind, values: &[PartValue; MOST_PARTS]) -> Message
     requires { (version : ℕ) × ValuesFit version (message_parts kind) values.now }
@@ -199,71 +217,44 @@ fn message_from(kind: MessageKind, values: &[PartValue; MOST_PARTS]) -> Message
         → MessageFits version result }
 {
     let [first, second, third, fourth] = values;
-    match (kind, first, second, third, fourth) {
-        (MessageKind::ObtainReq, PartValue::Place(place), PartValue::Target(target), ..) =>
-            Message::ObtainReq {
-                place: *place,
-                target: *target,
-            },
-        (
-            MessageKind::ObtainOk,
-            PartValue::Key(parent),
-            PartValue::Key(key),
-            PartValue::Object(object),
-            _,
-        ) => Message::ObtainOk {
-            parent: *parent,
-            key: *key,
-            object: *object,
+    match kind {
+        MessageKind::ObtainReq => Message::ObtainReq {
+            place: first.place(),
+            target: second.target(),
         },
-        (MessageKind::ObtainNo, PartValue::Place(place), PartValue::Number(code), ..) =>
-            Message::ObtainNo {
-                place: *place,
-                code: *code as u8,
-            },
-        (
-            MessageKind::DelegateReq,
-            PartValue::Key(parent),
-            PartValue::Object(object),
-            PartValue::Number(vpe),
-            PartValue::Number(sel),
-        ) => Message::DelegateReq {
-            parent: *parent,
-            object: *object,
-            vpe: *vpe as u16,
-            sel: *sel as u8,
+        MessageKind::ObtainOk => Message::ObtainOk {
+            parent: first.key(),
+            key: second.key(),
+            object: third.object(),
         },
-        (MessageKind::DelegatePrepared, PartValue::Key(parent), PartValue::Key(key), ..) =>
-            Message::DelegatePrepared {
-                parent: *parent,
-                key: *key,
-            },
-        (MessageKind::DelegateNo, PartValue::Key(parent), PartValue::Number(code), ..) =>
-            Message::DelegateNo {
-                parent: *parent,
-                code: *code as u8,
-            },
-        (MessageKind::Ack, PartValue::Key(key), PartValue::YesOrNo(yes), ..) => Message::Ack {
-            key: *key,
-            yes: *yes,
+        MessageKind::ObtainNo => Message::ObtainNo {
+            place: first.place(),
+            code: second.number() as u8,
         },
-        (MessageKind::Orphan, PartValue::Key(parent), PartValue::Key(key), ..) => Message::Orphan {
-            parent: *parent,
-            key: *key,
+        MessageKind::DelegateReq => Message::DelegateReq {
+            parent: first.key(),
+            object: second.object(),
+            vpe: third.number() as u16,
+            sel: fourth.number() as u8,
         },
-        (MessageKind::RevokeReq, PartValue::Key(key), PartValue::Number(job), ..) =>
-            Message::RevokeReq {
-                key: *key,
-                job: *job as u32,
-            },
-        (MessageKind::RevokeDone, PartValue::Number(job), ..) => Message::RevokeDone {
-            job: *job as u32,
+        MessageKind::DelegateNo => Message::DelegateNo {
+            parent: first.key(),
+            code: second.number() as u8,
         },
-        (MessageKind::Unlink, PartValue::Key(parent), PartValue::Key(key), ..) => Message::Unlink {
-            parent: *parent,
-            key: *key,
+        MessageKind::Ack => Message::Ack {
+            key: first.key(),
+            yes: second.yes(),
         },
-        _ => unreachable!(),
+        MessageKind::RevokeReq => Message::RevokeReq {
+            key: first.key(),
+            job: second.number() as u32,
+        },
+        MessageKind::RevokeDone => Message::RevokeDone {
+            job: first.number() as u32,
+        },
+        MessageKind::DelegatePrepared | MessageKind::Orphan | MessageKind::Unlink => {
+            of_two_keys(kind, first.key(), second.key())
+        }
     }
 }
 

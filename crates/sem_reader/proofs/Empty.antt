@@ -4,7 +4,7 @@ use Rattle.std.specs.List.{list_any}
 use Rattle.std.specs.Map.{lookup}
 use Rattle.std.proofs.lemmas.List.{length-replicate}
 use Rattle.sem_key.specs.MembershipTable.{MembershipTable}
-use Rattle.sem_trace.specs.Earlier.{window_in, owner_in, pe_in, is_taken, roots_in, calls_in, has_service, offer_in, is_denied, kill_in, call_number}
+use Rattle.sem_trace.specs.Earlier.{window_in, owner_in, pe_in, is_pe_taken, roots_in, calls_in, has_service, offer_in, is_denied, kill_in, call_number}
 use Rattle.sem_reader.specs.declared.tables.Tables.{Tables}
 use Rattle.sem_reader.specs.Pairs.{is_same_pair}
 use Rattle.sem_reader.specs.Tells.{Tells}
@@ -26,7 +26,7 @@ size table n x is = ap length is ∙ length-replicate n x
 pub tells_nothing : (t : Tables) (a b c d e f i : ℕ) → t.version ≡ 1 → t.window ≡ None → t.owners ≡ record { kernels = 1; owners = replicate a None } →
     t.pes ≡ replicate b None → t.taken ≡ replicate c false → t.roots.items ≡ replicate d [] → t.calls.items ≡ replicate e [] → t.call_number ≡ 0 →
     t.named ≡ replicate f false → t.offers.entries ≡ [] → t.denied.keys ≡ [] → t.kills ≡ replicate i None → Tells 1 1 [] t
-unfolding window_in owner_in pe_in is_taken roots_in calls_in has_service offer_in is_denied kill_in call_number
+unfolding window_in owner_in pe_in is_pe_taken roots_in calls_in has_service offer_in is_denied kill_in call_number
 tells_nothing t a b c d e f i version window owners pes taken roots calls count named offers denied kills = record {
   versions = inl refl;
   some = omega arith;

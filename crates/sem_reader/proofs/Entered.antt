@@ -13,7 +13,7 @@ use Rattle.sem_key.specs.declared.limits.TheConstants.{VPES}
 use Rattle.sem_trace.specs.declared.declaration.Declaration.{Declaration}
 use Rattle.sem_trace.specs.declared.declaration.Declaration.TheVariants.{Window, Kernels, Pe, Vpe, Memory, Receive, Service, Offer, Deny, Kill, Call as Calls}
 use Rattle.sem_trace.specs.declared.declaration.Declaration.TheVariants.{End}
-use Rattle.sem_trace.specs.Earlier.{window_in, owner_in, pe_in, is_taken, roots_in, calls_in, has_service, offer_in, is_denied, kill_in, call_number}
+use Rattle.sem_trace.specs.Earlier.{window_in, owner_in, pe_in, is_pe_taken, roots_in, calls_in, has_service, offer_in, is_denied, kill_in, call_number}
 use Rattle.sem_trace.specs.Context.{context_fault}
 use Rattle.sem_trace.specs.Ranges.{IsInRange}
 use Rattle.sem_reader.specs.declared.tables.Tables.{Tables}
@@ -131,7 +131,7 @@ enter_vpe version kernels ds t v p told ranges fault size in_size =
     let on : p < VPES = node_small version p ranges.1 in
     let within : v < length t.pes = omega arith in
     let in_taken : p < length t.taken = omega arith in
-    let twice : (is_some (pe_in ds v) || is_taken ds p) ≡ false = (no_fault ds (Vpe v p) fault).2 in
+    let twice : (is_some (pe_in ds v) || is_pe_taken ds p) ≡ false = (no_fault ds (Vpe v p) fault).2 in
     let none : pe_in ds v ≡ None = is_none _ (or_left _ _ twice) in
     record {
       versions = told.versions;
@@ -144,7 +144,7 @@ enter_vpe version kernels ds t v p told ranges fault size in_size =
       owner = λ q. told.owner q ∙ sym (owner_in-same ds (Vpe v p) q refl);
       pe = table_set t.pes v (Some p) None (pe_in ds) (pe_in (ds ++ (Vpe v p) ∷ [])) within told.pe (pe_in-new ds (Vpe v p) v p none (same_number v _ _))
           (λ u other. pe_in-same ds (Vpe v p) u (other_number v u _ _ other));
-      taken = table_set t.taken p true false (is_taken ds) (is_taken (ds ++ (Vpe v p) ∷ [])) in_taken told.taken (is_taken-new ds (Vpe v p) p (eq-eqb p p refl))
+      taken = table_set t.taken p true false (is_pe_taken ds) (is_pe_taken (ds ++ (Vpe v p) ∷ [])) in_taken told.taken (is_taken-new ds (Vpe v p) p (eq-eqb p p refl))
           (λ u other. is_taken-same ds (Vpe v p) u (ne_eqb p u (λ e. other (sym e))));
       root = λ u. told.root u ∙ sym (roots_in-same ds (Vpe v p) u refl);
       call = λ u. told.call u ∙ sym (calls_in-same ds (Vpe v p) u refl);

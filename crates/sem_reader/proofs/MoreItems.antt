@@ -1,7 +1,7 @@
 -- Lists that are built item by item.
-use Rattle.std.proofs.Common.{◌≡◌, ℕ, zero, suc, ◌+◌, ◌<◌, List, [], ◌∷◌, ◌++◌, length, length-take, take, get_or, Option, Some, None, refl, ap, ◌∙◌, arith}
+use Rattle.std.proofs.Common.{◌≡◌, ℕ, suc, ◌+◌, ◌<◌, List, [], ◌∷◌, ◌++◌, length, length-take, take, get_or, Option, Some, None, refl, ap, ◌∙◌, arith}
 use Rattle.std.proofs.Common.{append_assoc, append-nil}
-use Rattle.std.specs.List.{filter_map, flat_map, cons_option, range_with_len}
+use Rattle.std.specs.List.{filter_map, flat_map, cons_option}
 use Rattle.std.specs.Option.{option_to_list}
 use Rattle.std.proofs.lemmas.List.{take_more}
 use Rattle.sem_msg.specs.declared.setup.Root.{Root}
@@ -9,6 +9,7 @@ use Rattle.sem_msg.specs.declared.setup.Service.{Service}
 use Rattle.sem_msg.specs.declared.setup.VpeDecl.{VpeDecl}
 use Rattle.sem_msg.specs.Setup.{services_from, service_with, root_key}
 use Rattle.sem_trace.specs.Refusal.{numbers}
+use Rattle.sem_trace.proofs.ReadText.{numbers-more}
 
 cons_option-append : {Y : Type 0} (o : Option Y) (ys zs : List Y) → cons_option o (ys ++ zs) ≡ cons_option o ys ++ zs
 cons_option-append None ys zs = refl
@@ -25,19 +26,6 @@ filter_map-push h (y ∷ ys) x = ap (cons_option (h y)) (filter_map-push h ys x)
 flat_map-push : {X Y : Type 0} (h : X → List Y) (xs : List X) (x : X) → flat_map h (xs ++ x ∷ []) ≡ flat_map h xs ++ h x
 flat_map-push h [] x = rw append-nil refl
 flat_map-push h (y ∷ ys) x = ap (λ zs. h y ++ zs) (flat_map-push h ys x) ∙ (rw append_assoc refl)
-
-range-push : (a n : ℕ) → range_with_len a (suc n) ≡ range_with_len a n ++ (a + n) ∷ []
-range-push a zero = let e : a + 0 ≡ a = omega arith in rw e refl
-range-push a (suc n) = let e : a + suc n ≡ (a + 1) + n = omega arith in rw (e, range-push (a + 1) n) refl
-
--- one number more
-pub numbers-more : (n : ℕ) → numbers (n + 1) ≡ numbers n ++ n ∷ []
-unfolding numbers
-numbers-more n = let e : 0 + n ≡ n = omega arith in let s : n + 1 ≡ suc n = omega arith in rw (s, range-push 0 n, e) refl
-
-pub numbers-none : numbers 0 ≡ []
-unfolding numbers
-numbers-none = refl
 
 -- what h gives of one number more
 pub more_number : {Y : Type 0} (h : ℕ → Option Y) (n : ℕ) (o : Option Y) (before now after : List Y) → now ≡ before ++ filter_map h (numbers n) →

@@ -8,13 +8,14 @@ use Rattle.std.proofs.lemmas.Option.{none-some}
 use Rattle.std.proofs.lemmas.List.Sums.{sum_by_push}
 use Rattle.std.proofs.lemmas.List.{get_or-set_same, get_or-set_other}
 use Rattle.sem_trace.specs.declared.declaration.Declaration.{Declaration}
-use Rattle.sem_trace.specs.Earlier.{first_some, said_window, window_in, said_owner, owner_in, said_pe, pe_in, says_on, is_taken, said_root, roots_in, said_call}
+use Rattle.sem_trace.specs.Earlier.{first_some, said_window, window_in, said_owner, owner_in, said_pe, pe_in, says_on, is_pe_taken, said_root, roots_in, said_call}
 use Rattle.sem_trace.specs.Earlier.{calls_in, says_service, has_service, said_offer, offer_in, says_deny, is_denied, said_kill, kill_in, is_call_line, call_number}
 use Rattle.sem_trace.specs.Earlier.{is_end, is_ended}
 use Rattle.sem_msg.specs.declared.call.Call.{Call}
 use Rattle.sem_msg.specs.declared.setup.Root.{Root}
 use Rattle.sem_trace.specs.Ranges.{IsInRange}
 use Rattle.sem_trace.specs.Context.{context_fault, is_too_long, is_undeclared, is_twice, is_call_too_many}
+use Rattle.sem_trace.proofs.ReadText.{first_same}
 use Rattle.sem_reader.specs.Accepted.{AreAccepted}
 
 -- where the first of two is not there, the second is told
@@ -59,10 +60,6 @@ cons_nil : {Y : Type 0} (x : Y) (xs : List Y) → x ∷ xs ≡ [] → ⊥
 cons_nil x xs is = true≢false (ap is_cons is)
 
 module _ {X : Type 0} where
-  pub first_same : {Y : Type 0} (h : X → Option Y) (xs : List X) (x : X) → h x ≡ None → first_some h (xs ++ x ∷ []) ≡ first_some h xs
-  first_same h [] x none = rw none refl
-  first_same h (y ∷ ys) x none = ap (option_or (h y)) (first_same h ys x none)
-
   pub first_more : {Y : Type 0} (h : X → Option Y) (xs : List X) (x : X) → first_some h (xs ++ x ∷ []) ≡ option_or (first_some h xs) (h x)
   first_more h [] x = or_nothing (h x)
   first_more h (y ∷ ys) x = ap (option_or (h y)) (first_more h ys x) ∙ sym (or_or (h y) (first_some h ys) (h x))
@@ -147,12 +144,12 @@ pub kill_in-new : (ds : List Declaration) (d : Declaration) (v x : ℕ) → kill
 unfolding kill_in
 kill_in-new ds d v x none some = first_new (said_kill v) ds d x none some
 
-pub is_taken-same : (ds : List Declaration) (d : Declaration) (p : ℕ) → says_on p d ≡ false → is_taken (ds ++ d ∷ []) p ≡ is_taken ds p
-unfolding is_taken
+pub is_taken-same : (ds : List Declaration) (d : Declaration) (p : ℕ) → says_on p d ≡ false → is_pe_taken (ds ++ d ∷ []) p ≡ is_pe_taken ds p
+unfolding is_pe_taken
 is_taken-same ds d p nothing = any_same (says_on p) ds d nothing
 
-pub is_taken-new : (ds : List Declaration) (d : Declaration) (p : ℕ) → says_on p d ≡ true → is_taken (ds ++ d ∷ []) p ≡ true
-unfolding is_taken
+pub is_taken-new : (ds : List Declaration) (d : Declaration) (p : ℕ) → says_on p d ≡ true → is_pe_taken (ds ++ d ∷ []) p ≡ true
+unfolding is_pe_taken
 is_taken-new ds d p some = any_new (says_on p) ds d some
 
 pub has_service-same : (ds : List Declaration) (d : Declaration) (name : ℕ) → says_service name d ≡ false →
@@ -271,8 +268,8 @@ pub offer_in-more : (ds : List Declaration) (d : Declaration) (name index : ℕ)
 unfolding offer_in
 offer_in-more ds d name index = first_more (said_offer name index) ds d
 
-pub is_taken-kept : (ds : List Declaration) (d : Declaration) (p : ℕ) → is_taken ds p ≡ true → is_taken (ds ++ d ∷ []) p ≡ true
-unfolding is_taken
+pub is_taken-kept : (ds : List Declaration) (d : Declaration) (p : ℕ) → is_pe_taken ds p ≡ true → is_pe_taken (ds ++ d ∷ []) p ≡ true
+unfolding is_pe_taken
 is_taken-kept ds d p yes' = any_more (says_on p) ds d ∙ (rw yes' refl)
 
 pub has_service-kept : (ds : List Declaration) (d : Declaration) (name : ℕ) → has_service ds name ≡ true → has_service (ds ++ d ∷ []) name ≡ true

@@ -22,7 +22,7 @@ use Rattle.sem_msg.specs.Versions.{most_vpes}
 use Rattle.sem_trace.specs.declared.declaration.Declaration.{Declaration}
 use Rattle.sem_trace.specs.declared.declaration.Declaration.TheVariants.{Kernels, Window, Pe, Vpe, Memory, Receive, Service, Offer, Deny, Kill, Call as Calls}
 use Rattle.sem_trace.specs.declared.declaration.Declaration.TheVariants.{End}
-use Rattle.sem_trace.specs.Earlier.{first_some, said_window, window_in, said_owner, owner_in, said_pe, pe_in, says_on, is_taken, said_root, roots_in, holds_at}
+use Rattle.sem_trace.specs.Earlier.{first_some, said_window, window_in, said_owner, owner_in, said_pe, pe_in, says_on, is_pe_taken, said_root, roots_in, holds_at}
 use Rattle.sem_trace.specs.Earlier.{says_service, has_service, said_offer, offer_in, says_deny, is_denied, said_kill, kill_in, is_call_line, call_number}
 use Rattle.sem_trace.specs.Context.{context_fault, is_too_long, is_undeclared, is_twice, is_call_too_many}
 use Rattle.sem_trace.specs.Ranges.{IsNode, IsInRange}
@@ -107,8 +107,8 @@ no_vpe : (before : List Declaration) (v p : ℕ) → ((e : Declaration) → Cont
 unfolding pe_in
 no_vpe before v p other = first_none (said_pe v) before (λ e within. none_from (said_pe v e) (λ q some. (other e within).vpe v q p some (same_if v _ _)))
 
-not_taken : (before : List Declaration) (v p : ℕ) → ((e : Declaration) → Contains before e → Differ e (Vpe v p)) → is_taken before p ≡ false
-unfolding is_taken
+not_taken : (before : List Declaration) (v p : ℕ) → ((e : Declaration) → Contains before e → Differ e (Vpe v p)) → is_pe_taken before p ≡ false
+unfolding is_pe_taken
 not_taken before v p other = any_none (says_on p) before (λ e within some. (other e within).on p some (eq-eqb p p refl))
 
 not_held : (before : List Declaration) (d : Declaration) (v : ℕ) (r : Root) → said_root v d ≡ Some r → ((e : Declaration) → Contains before e → Differ e d) →

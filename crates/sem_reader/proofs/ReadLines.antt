@@ -4,26 +4,21 @@ use Rattle.std.proofs.Common.{subst, ◌∙◌, inl, inr}
 use Rattle.std.proofs.lemmas.Bool.{cases_Bool}
 use Rattle.sem_key.specs.MembershipTable.{MembershipTable}
 use Rattle.sem_msg.specs.Versions.{most_kernels}
-use Rattle.sem_trace.specs.LineErrors.{Stops}
-use Rattle.sem_trace.specs.declared.fault.Cause.{Cause}
 use Rattle.sem_trace.specs.declared.fault.LineFault.{LineFault}
 use Rattle.sem_trace.specs.declared.fault.Cause.TheVariants.{TooMany}
 use Rattle.sem_trace.specs.declared.declaration.Declaration.{Declaration}
-use Rattle.sem_trace.specs.TextLines.{words_of, is_significant, bytes_fault}
 use Rattle.sem_trace.specs.Forms.{word_fault, whole_line, first_form, second_form, third_form, form}
 use Rattle.sem_trace.specs.Declarations.{number_at, declaration}
 use Rattle.sem_trace.specs.Earlier.{window_in, owner_in, is_end, is_ended}
 use Rattle.sem_trace.specs.Context.{context_fault}
-use Rattle.sem_trace.specs.Refusal.{version_in, is_third, body_fault, words_fault, line_fault}
+use Rattle.sem_trace.specs.Refusal.{version_in, is_third, body_fault, words_fault}
 use Rattle.sem_reader.specs.declared.reader.Stage.{Stage}
 use Rattle.sem_reader.specs.declared.reader.Stage.TheVariants.{Start, Named, Counted, Open, Ended}
-use Rattle.sem_trace.specs.declared.line_error.LineError.{LineError}
-use Rattle.sem_trace.specs.declared.line_error.LineError.TheVariants.{Refused, Memory}
 use Rattle.sem_reader.specs.declared.tables.Tables.{Tables}
 use Rattle.sem_trace.specs.Readers.{IsWindowLine}
 use Rattle.sem_trace.proofs.Nodes.{some_kernel}
 use Rattle.sem_reader.specs.Tells.{Tells}
-use Rattle.sem_reader.specs.Reads.{IsOpened, IsReadTo, with_significant}
+use Rattle.sem_reader.specs.Reads.{IsOpened, IsReadTo}
 use Rattle.sem_reader.proofs.OneMore.{accepted_none, is_ended-same, is_ended-new}
 use Rattle.sem_reader.proofs.Empty.{entry}
 
@@ -236,32 +231,3 @@ unfolding words_fault body_fault
 ended_refused stage lines words t at read =
     let ended : IsOpened lines t false true = subst (λ (s : Stage). IsReadTo s lines t) at read in
     rw (ended.are, ended.due, ended.said) refl
-
--- a line whose bytes are bad
-pub bad_bytes : (lines : List (List (List ℕ))) (line : List ℕ) (cause : Cause) → bytes_fault line ≡ Some cause →
-    line_fault lines line ≡ Some (whole_line cause)
-unfolding line_fault
-bad_bytes lines line cause fault = rw fault refl
-
--- a line that says nothing
-pub skipped : (lines : List (List (List ℕ))) (line : List ℕ) (P : List (List (List ℕ)) → Type 0) → bytes_fault line ≡ None →
-    is_significant (words_of line) ≡ false → P lines → (line_fault lines line ≡ None) × P (with_significant lines line)
-unfolding line_fault
-skipped lines line P fits nothing holds = (rw (fits, nothing) refl, rw nothing holds)
-
--- a line that says something
-pub said : (lines : List (List (List ℕ))) (line : List ℕ) (P : List (List (List ℕ)) → Type 0) → bytes_fault line ≡ None →
-    is_significant (words_of line) ≡ true → (words_fault lines (words_of line) ≡ None) × P (lines ++ words_of line ∷ []) →
-    (line_fault lines line ≡ None) × P (with_significant lines line)
-unfolding line_fault
-said lines line P fits something holds = (rw (fits, something) holds.0, rw something holds.1)
-
-pub refused : (lines : List (List (List ℕ))) (line : List ℕ) (cause : LineFault) → bytes_fault line ≡ None → is_significant (words_of line) ≡ true →
-    words_fault lines (words_of line) ≡ Some cause → line_fault lines line ≡ Some cause
-unfolding line_fault
-refused lines line cause fits something fault = rw (fits, something) fault
-
--- what is wrong with a line, for another reason
-pub stops_weaker : (P Q : LineFault → Type 0) → ((cause : LineFault) → P cause → Q cause) → (e : LineError) → Stops P e → Stops Q e
-stops_weaker P Q more (Refused cause) stops = more cause stops
-stops_weaker P Q more Memory stops = tt

@@ -17,7 +17,7 @@ use Rattle.sem_msg.specs.Setup.{IsRoot}
 use Rattle.sem_msg.specs.Versions.{most_vpes, IsWindow}
 use Rattle.sem_trace.specs.declared.declaration.Declaration.{Declaration}
 use Rattle.sem_trace.specs.declared.declaration.Declaration.TheVariants.{Window, Pe, Vpe, Memory, Receive, Service, Offer, Deny, Kill, Call as Calls}
-use Rattle.sem_trace.specs.Earlier.{said_window, window_in, said_owner, owner_in, said_pe, pe_in, is_taken, said_root, roots_in, holds_at, said_call, calls_in}
+use Rattle.sem_trace.specs.Earlier.{said_window, window_in, said_owner, owner_in, said_pe, pe_in, is_pe_taken, said_root, roots_in, holds_at, said_call, calls_in}
 use Rattle.sem_trace.specs.Earlier.{says_service, has_service, said_offer, offer_in, says_deny, is_denied, said_kill, kill_in, call_number, is_call_line}
 use Rattle.sem_trace.specs.Context.{context_fault}
 use Rattle.sem_trace.specs.Ranges.{IsInRange}
@@ -120,7 +120,7 @@ pub record IsPlaced (version : ℕ) (ds : List Declaration) (v p : ℕ) : Type 0
   pub vpe : v < most_vpes version
   pub pe : p < most_vpes version
   pub owned : IsSome (owner_in ds p)
-  pub taken : is_taken ds p ≡ true
+  pub taken : is_pe_taken ds p ≡ true
 
 still_placed : (version : ℕ) (ds : List Declaration) (d : Declaration) (v p : ℕ) → IsPlaced version ds v p → IsPlaced version (ds ++ d ∷ []) v p
 still_placed version ds d v p placed = record {
@@ -162,14 +162,14 @@ same_vpe v w p same = ap vpe_number same
 
 -- no two VPEs are on one PE
 pub record AreApart (ds : List Declaration) : Type 0 where
-  pub on : (v p : ℕ) → pe_in ds v ≡ Some p → is_taken ds p ≡ true
+  pub on : (v p : ℕ) → pe_in ds v ≡ Some p → is_pe_taken ds p ≡ true
   pub apart : (v w p : ℕ) → pe_in ds v ≡ Some p → pe_in ds w ≡ Some p → v ≡ w
 
 one_vpe_more : (version kernels : ℕ) (ds : List Declaration) (d : Declaration) → AreApart ds → IsInRange version kernels d → context_fault ds d ≡ None →
     AreApart (ds ++ d ∷ [])
 one_vpe_more version kernels ds d so_far ranges fault =
     let told = λ (v p : ℕ) (some : pe_in (ds ++ d ∷ []) v ≡ Some p). or_last (pe_in ds v) (said_pe v d) p (sym (pe_in-more ds d v) ∙ some) in
-    let free : (v p : ℕ) → said_pe v d ≡ Some p → is_taken ds p ≡ false = λ v p new. let is : d ≡ Vpe v p = said_vpe v d p new in
+    let free : (v p : ℕ) → said_pe v d ≡ Some p → is_pe_taken ds p ≡ false = λ v p new. let is : d ≡ Vpe v p = said_vpe v d p new in
     or_right _ _ (no_fault ds (Vpe v p) (rw is at fault)).2 in
     record {
       on = λ v p some.

@@ -11,7 +11,7 @@ use Rattle.sem_msg.specs.Versions.{most_kernels, least_window, most_window}
 use Rattle.sem_text.specs.Number.{number_value}
 use Rattle.sem_trace.specs.declared.fault.Cause.TheVariants.{TooMany, Missing, InputTooLong}
 use Rattle.sem_trace.specs.declared.fault.TraceFault.{TraceFault}
-use Rattle.sem_trace.specs.TextLines.{lines_of, words_of, is_significant, significant, bytes_fault}
+use Rattle.sem_trace.specs.TextLines.{lines_of, words_of, is_significant, significant, with_significant, bytes_fault}
 use Rattle.sem_trace.proofs.PlaceSteps.{unmapped, has_form}
 use Rattle.sem_trace.specs.Forms.{form_fault, word_fault, whole_line, first_form, second_form, third_form, form, word_at}
 use Rattle.sem_trace.specs.Declarations.{number_at, declaration}
@@ -22,11 +22,9 @@ use Rattle.sem_trace.specs.Refusal.{version_in, is_third, body_fault, words_faul
 use Rattle.sem_trace.specs.Refusal.{declarations_of, end_fault, lines_refusal, refusal}
 use Rattle.sem_trace.specs.SetupOfText.{setup_of, Stands}
 use Rattle.sem_reader.specs.Accepted.{AreAccepted}
-use Rattle.sem_reader.specs.Reads.{with_significant}
+use Rattle.sem_trace.proofs.ReadText.{numbers-more, significant-push}
 use Rattle.sem_reader.proofs.InRange.{at_place, number_in, one_of, form_ranges}
-use Rattle.sem_reader.proofs.MoreItems.{numbers-more}
 use Rattle.sem_reader.proofs.OneMore.{accepted_more, accepted_none}
-use Rattle.sem_reader.proofs.ReadText.{significant-push}
 use Rattle.sem_reader.proofs.SetupIs.{setup_is}
 
 both_none : {X : Type 0} (o p : Option X) → option_or o p ≡ None → (o ≡ None) × (p ≡ None)

@@ -1,11 +1,11 @@
 -- What the reader keeps of the lines so far that say something, each as its words.
-use Rattle.std.specs.Prelude.{◌≡◌, ℕ, ◌+◌, ◌≤◌, Bool, true, false, List, [], ◌∷◌, ◌++◌, length, map, None, Some}
-use Rattle.std.specs.Prelude.{if◌then◌else◌}
+use Rattle.std.specs.Prelude.{◌≡◌, ℕ, Bool, true, false, List, [], ◌∷◌, ◌++◌, map, None, Some}
 use Rattle.sem_trace.specs.declared.fault.LineFault.{LineFault}
-use Rattle.sem_trace.specs.TextLines.{lines_of, words_of, is_significant, significant}
+use Rattle.sem_trace.specs.TextLines.{with_significant}
 use Rattle.sem_trace.specs.Declarations.{number_at, declaration}
-use Rattle.sem_trace.specs.Earlier.{first_some, is_ended}
-use Rattle.sem_trace.specs.Refusal.{version_in, is_third, words_fault, line_fault, numbers, fault_at}
+use Rattle.sem_trace.specs.Earlier.{is_ended}
+use Rattle.sem_trace.specs.Refusal.{version_in, is_third, words_fault, line_fault}
+use Rattle.sem_trace.specs.LinesRead.{AreRead}
 use Rattle.sem_reader.specs.declared.reader.Stage.{Stage}
 use Rattle.sem_reader.specs.declared.reader.Stage.TheVariants.{Start, Named, Counted, Open, Ended}
 use Rattle.sem_reader.specs.declared.reader.Reader.{Reader}
@@ -31,36 +31,27 @@ IsReadTo Open lines t = IsOpened lines t false false
 IsReadTo Ended lines t = IsOpened lines t false true
 
 -- the reader has read these lines and found nothing wrong with any
-abbrev pub IsRead : List (List (List ℕ)) → Reader → Type 0
-IsRead lines r = IsReadTo r.stage lines r.tables
+abbrev pub IsRead : Reader → List (List (List ℕ)) → Type 0
+IsRead r lines = IsReadTo r.stage lines r.tables
 
 -- nothing is wrong with a line of these words, and the reader has read it too
 abbrev pub Accepts : List (List ℕ) → Reader → Reader → Type 0
-Accepts words old new = (lines : List (List (List ℕ))) → IsRead lines old →
-    (words_fault lines words ≡ None) × IsRead (lines ++ words ∷ []) new
+Accepts words old new = (lines : List (List (List ℕ))) → IsRead old lines →
+    (words_fault lines words ≡ None) × IsRead new (lines ++ words ∷ [])
 
 -- the fault is what is wrong with a line of these words
 abbrev pub Refuses : List (List ℕ) → Reader → LineFault → Type 0
-Refuses words old fault = (lines : List (List (List ℕ))) → IsRead lines old → words_fault lines words ≡ Some fault
-
--- the lines, and the line too, if it says something
-abbrev pub with_significant : List (List (List ℕ)) → List ℕ → List (List (List ℕ))
-with_significant lines line = if is_significant (words_of line) then lines ++ words_of line ∷ [] else lines
+Refuses words old fault = (lines : List (List (List ℕ))) → IsRead old lines → words_fault lines words ≡ Some fault
 
 -- the same for a line that may say nothing
 abbrev pub AcceptsLine : List ℕ → Reader → Reader → Type 0
-AcceptsLine line old new = (lines : List (List (List ℕ))) → IsRead lines old →
-    (line_fault lines line ≡ None) × IsRead (with_significant lines line) new
+AcceptsLine line old new = (lines : List (List (List ℕ))) → IsRead old lines →
+    (line_fault lines line ≡ None) × IsRead new (with_significant lines line)
 
 abbrev pub RefusesLine : List ℕ → Reader → LineFault → Type 0
-RefusesLine line old fault = (lines : List (List (List ℕ))) → IsRead lines old → line_fault lines line ≡ Some fault
+RefusesLine line old fault = (lines : List (List (List ℕ))) → IsRead old lines → line_fault lines line ≡ Some fault
 
--- All lines of a text but those that are left are read, and nothing was wrong with any of them.
+-- the reader has read all lines of the text but those that are left
 pub record IsReadUpTo (bytes : List ℕ) (left : List (List ℕ)) (number : ℕ) (r : Reader) : Type 0 where
-  pub before : List (List ℕ)
-  pub lines : lines_of bytes ≡ before ++ left
-  pub count : number ≡ length before
-  pub fine : first_some (fault_at (lines_of bytes)) (numbers number) ≡ None
-  pub read : IsRead (significant before) r
+  pub lines : AreRead line_fault (IsRead r) bytes left number
   pub sizes : HasSizes r.tables
-  pub room : number + length left ≤ length bytes

@@ -8,7 +8,7 @@ use Rattle.sem_msg.specs.declared.limits.TheConstants.{SELECTORS}
 use Rattle.sem_msg.specs.declared.setup.VpeDecl.{VpeDecl}
 use Rattle.sem_msg.specs.Versions.{most_kernels}
 use Rattle.sem_trace.specs.declared.declaration.Declaration.{Declaration}
-use Rattle.sem_trace.specs.Earlier.{window_in, owner_in, pe_in, is_taken, roots_in, calls_in, has_service, offer_in}
+use Rattle.sem_trace.specs.Earlier.{window_in, owner_in, pe_in, is_pe_taken, roots_in, calls_in, has_service, offer_in}
 use Rattle.sem_trace.specs.Earlier.{is_denied, kill_in, call_number}
 use Rattle.sem_reader.specs.declared.tables.Tables.{Tables}
 use Rattle.sem_reader.specs.Pairs.{is_same_pair}
@@ -31,7 +31,7 @@ pub record Tells (version kernels : ℕ) (ds : List Declaration) (t : Tables) : 
   pub number : t.owners.kernels ≡ kernels
   pub owner : (p : ℕ) → owner_at t.owners p ≡ owner_in ds p
   pub pe : (v : ℕ) → slice_index_or t.pes v None ≡ pe_in ds v
-  pub taken : (p : ℕ) → slice_index_or t.taken p false ≡ is_taken ds p
+  pub taken : (p : ℕ) → slice_index_or t.taken p false ≡ is_pe_taken ds p
   pub root : (v : ℕ) → slice_index_or t.roots.items v [] ≡ roots_in ds v
   pub call : (v : ℕ) → slice_index_or t.calls.items v [] ≡ calls_in ds v
   pub count : t.call_number ≡ call_number ds

@@ -146,8 +146,8 @@ impl<'a> Lines<'a> {
         ensures ok { OnOk result (HaveForms (held_form version ∷ []) (self.old.number + 1)
             (whole_lines self.old.rest.now) (self.new.number + 1)
             (whole_lines self.new.rest.now)) }
-        ensures err { IfErr result
-            (StopsAt (held_form version ∷ []) (self.old.number + 1) (whole_lines self.old.rest.now)) }
+        ensures err { IfErr result (StopsAt (held_form version ∷ []) (self.old.number + 1)
+            (whole_lines self.old.rest.now)) }
         ensures read { IfOk result (λ held. self.old.rest.now
             ≡ line_spec (held_words_spec (held.key, held.sel)) ++ self.new.rest.now) }
         ensures fits { IfOk result (λ held. HeldFits version (held.key, held.sel)) }

@@ -7,3 +7,4 @@ pub mod PrintedNumbers
 pub mod Nodes
 pub mod CallRows
 pub mod LineRows
+pub mod ReadText

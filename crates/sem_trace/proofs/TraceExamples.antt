@@ -12,7 +12,7 @@ use Rattle.sem_trace.specs.declared.fault.TraceFault.{TraceFault}
 use Rattle.sem_trace.specs.TextLines.{lines_of, words_of, bytes_fault}
 use Rattle.sem_trace.specs.Forms.{form_fault, word_fault, root_objects, calls, lines, first_form, second_form, third_form, form}
 use Rattle.sem_trace.specs.Declarations.{call_from, root_from, declaration}
-use Rattle.sem_trace.specs.Earlier.{window_in, owner_in, pe_in, is_taken, roots_in, calls_in, vpe_in, has_service, offer_in, is_denied, kill_in, call_number}
+use Rattle.sem_trace.specs.Earlier.{window_in, owner_in, pe_in, is_pe_taken, roots_in, calls_in, vpe_in, has_service, offer_in, is_denied, kill_in, call_number}
 use Rattle.sem_trace.specs.Earlier.{is_ended}
 use Rattle.sem_trace.specs.Context.{context_fault}
 use Rattle.sem_trace.specs.Refusal.{body_fault, words_fault, line_fault, numbers, fault_at, first_fault, version_of, kernels_of, declarations_of, end_fault}
@@ -39,7 +39,7 @@ whole line cause = Some (record { line = line; word = None; cause = cause })
 -- a number with a leading zero is no number
 leading_zero : refusal (trace (codes "root 0 0 mem 0 4096 07" ∷ codes "end" ∷ [])) ≡ refused 5 6 BadNumber
 unfolding refusal word_fault lines_of words_of bytes_fault form_fault root_objects calls lines first_form second_form third_form form call_from root_from
-    declaration window_in owner_in pe_in is_taken roots_in calls_in vpe_in has_service offer_in is_denied kill_in call_number is_ended context_fault
+    declaration window_in owner_in pe_in is_pe_taken roots_in calls_in vpe_in has_service offer_in is_denied kill_in call_number is_ended context_fault
     body_fault words_fault line_fault
     numbers fault_at first_fault version_of kernels_of declarations_of end_fault
 leading_zero = refl
@@ -47,7 +47,7 @@ leading_zero = refl
 -- the lines that say nothing are counted
 no_end : refusal (trace (codes "# nothing" ∷ [] ∷ [])) ≡ whole 7 Missing
 unfolding refusal word_fault lines_of words_of bytes_fault form_fault root_objects calls lines first_form second_form third_form form call_from root_from
-    declaration window_in owner_in pe_in is_taken roots_in calls_in vpe_in has_service offer_in is_denied kill_in call_number is_ended context_fault
+    declaration window_in owner_in pe_in is_pe_taken roots_in calls_in vpe_in has_service offer_in is_denied kill_in call_number is_ended context_fault
     body_fault words_fault line_fault
     numbers fault_at first_fault version_of kernels_of declarations_of end_fault
 no_end = refl
@@ -55,7 +55,7 @@ no_end = refl
 -- that something is undeclared is told before that it comes twice
 undeclared_first : refusal (trace (codes "vpe 0 5" ∷ codes "end" ∷ [])) ≡ refused 5 2 Undeclared
 unfolding refusal word_fault lines_of words_of bytes_fault form_fault root_objects calls lines first_form second_form third_form form call_from root_from
-    declaration window_in owner_in pe_in is_taken roots_in calls_in vpe_in has_service offer_in is_denied kill_in call_number is_ended context_fault
+    declaration window_in owner_in pe_in is_pe_taken roots_in calls_in vpe_in has_service offer_in is_denied kill_in call_number is_ended context_fault
     body_fault words_fault line_fault
     numbers fault_at first_fault version_of kernels_of declarations_of end_fault
 undeclared_first = refl
@@ -63,7 +63,7 @@ undeclared_first = refl
 -- a service and a root share the selectors
 twice : refusal (trace (codes "root 0 2 recv 1" ∷ codes "service 0 2 1" ∷ codes "end" ∷ [])) ≡ refused 6 2 Twice
 unfolding refusal word_fault lines_of words_of bytes_fault form_fault root_objects calls lines first_form second_form third_form form call_from root_from
-    declaration window_in owner_in pe_in is_taken roots_in calls_in vpe_in has_service offer_in is_denied kill_in call_number is_ended context_fault
+    declaration window_in owner_in pe_in is_pe_taken roots_in calls_in vpe_in has_service offer_in is_denied kill_in call_number is_ended context_fault
     body_fault words_fault line_fault
     numbers fault_at first_fault version_of kernels_of declarations_of end_fault
 twice = refl
@@ -71,7 +71,7 @@ twice = refl
 -- memory ends at 2 ^ 32 at most, and that is told before that the VPE is undeclared
 too_far : refusal (trace (codes "root 1 0 mem 4294967295 2 7" ∷ codes "end" ∷ [])) ≡ refused 5 5 OutOfRange
 unfolding refusal word_fault lines_of words_of bytes_fault form_fault root_objects calls lines first_form second_form third_form form call_from root_from
-    declaration window_in owner_in pe_in is_taken roots_in calls_in vpe_in has_service offer_in is_denied kill_in call_number is_ended context_fault
+    declaration window_in owner_in pe_in is_pe_taken roots_in calls_in vpe_in has_service offer_in is_denied kill_in call_number is_ended context_fault
     body_fault words_fault line_fault
     numbers fault_at first_fault version_of kernels_of declarations_of end_fault
 too_far = refl
@@ -79,7 +79,7 @@ too_far = refl
 -- the leftmost fault is told
 leftmost : refusal (trace (codes "root 99 0 mem" ∷ codes "end" ∷ [])) ≡ refused 5 1 OutOfRange
 unfolding refusal word_fault lines_of words_of bytes_fault form_fault root_objects calls lines first_form second_form third_form form call_from root_from
-    declaration window_in owner_in pe_in is_taken roots_in calls_in vpe_in has_service offer_in is_denied kill_in call_number is_ended context_fault
+    declaration window_in owner_in pe_in is_pe_taken roots_in calls_in vpe_in has_service offer_in is_denied kill_in call_number is_ended context_fault
     body_fault words_fault line_fault
     numbers fault_at first_fault version_of kernels_of declarations_of end_fault
 leftmost = refl
@@ -87,7 +87,7 @@ leftmost = refl
 -- a word that is missing stands after all words
 missing : refusal (trace (codes "root 0 0 mem 1" ∷ codes "end" ∷ [])) ≡ refused 5 5 Missing
 unfolding refusal word_fault lines_of words_of bytes_fault form_fault root_objects calls lines first_form second_form third_form form call_from root_from
-    declaration window_in owner_in pe_in is_taken roots_in calls_in vpe_in has_service offer_in is_denied kill_in call_number is_ended context_fault
+    declaration window_in owner_in pe_in is_pe_taken roots_in calls_in vpe_in has_service offer_in is_denied kill_in call_number is_ended context_fault
     body_fault words_fault line_fault
     numbers fault_at first_fault version_of kernels_of declarations_of end_fault
 missing = refl
@@ -95,7 +95,7 @@ missing = refl
 -- a word more is told after the places
 too_many : refusal (trace (codes "call 0 exit 0" ∷ codes "end" ∷ [])) ≡ refused 5 3 TooMany
 unfolding refusal word_fault lines_of words_of bytes_fault form_fault root_objects calls lines first_form second_form third_form form call_from root_from
-    declaration window_in owner_in pe_in is_taken roots_in calls_in vpe_in has_service offer_in is_denied kill_in call_number is_ended context_fault
+    declaration window_in owner_in pe_in is_pe_taken roots_in calls_in vpe_in has_service offer_in is_denied kill_in call_number is_ended context_fault
     body_fault words_fault line_fault
     numbers fault_at first_fault version_of kernels_of declarations_of end_fault
 too_many = refl
@@ -103,7 +103,7 @@ too_many = refl
 -- a call that there is not
 unknown : refusal (trace (codes "call 0 derived 0" ∷ codes "end" ∷ [])) ≡ refused 5 2 UnknownWord
 unfolding refusal word_fault lines_of words_of bytes_fault form_fault root_objects calls lines first_form second_form third_form form call_from root_from
-    declaration window_in owner_in pe_in is_taken roots_in calls_in vpe_in has_service offer_in is_denied kill_in call_number is_ended context_fault
+    declaration window_in owner_in pe_in is_pe_taken roots_in calls_in vpe_in has_service offer_in is_denied kill_in call_number is_ended context_fault
     body_fault words_fault line_fault
     numbers fault_at first_fault version_of kernels_of declarations_of end_fault
 unknown = refl
@@ -111,7 +111,7 @@ unknown = refl
 -- the second line that says something says how many kernels there are
 second : refusal (ended_lines (codes "semper trace 1" ∷ codes "end" ∷ [])) ≡ refused 2 0 UnknownWord
 unfolding refusal word_fault lines_of words_of bytes_fault form_fault root_objects calls lines first_form second_form third_form form call_from root_from
-    declaration window_in owner_in pe_in is_taken roots_in calls_in vpe_in has_service offer_in is_denied kill_in call_number is_ended context_fault
+    declaration window_in owner_in pe_in is_pe_taken roots_in calls_in vpe_in has_service offer_in is_denied kill_in call_number is_ended context_fault
     body_fault words_fault line_fault
     numbers fault_at first_fault version_of kernels_of declarations_of end_fault
 second = refl
@@ -119,7 +119,7 @@ second = refl
 -- nothing is said behind the last line
 behind_end : refusal (trace (codes "end" ∷ codes "# nothing" ∷ codes "kernels" ∷ [])) ≡ whole 7 TooMany
 unfolding refusal word_fault lines_of words_of bytes_fault form_fault root_objects calls lines first_form second_form third_form form call_from root_from
-    declaration window_in owner_in pe_in is_taken roots_in calls_in vpe_in has_service offer_in is_denied kill_in call_number is_ended context_fault
+    declaration window_in owner_in pe_in is_pe_taken roots_in calls_in vpe_in has_service offer_in is_denied kill_in call_number is_ended context_fault
     body_fault words_fault line_fault
     numbers fault_at first_fault version_of kernels_of declarations_of end_fault
 behind_end = refl
@@ -127,7 +127,7 @@ behind_end = refl
 -- the bytes of a comment are tested
 bytes_first : refusal (trace ((codes "#" ++ 13 ∷ []) ∷ codes "end" ∷ [])) ≡ whole 5 NotText
 unfolding refusal word_fault lines_of words_of bytes_fault form_fault root_objects calls lines first_form second_form third_form form call_from root_from
-    declaration window_in owner_in pe_in is_taken roots_in calls_in vpe_in has_service offer_in is_denied kill_in call_number is_ended context_fault
+    declaration window_in owner_in pe_in is_pe_taken roots_in calls_in vpe_in has_service offer_in is_denied kill_in call_number is_ended context_fault
     body_fault words_fault line_fault
     numbers fault_at first_fault version_of kernels_of declarations_of end_fault
 bytes_first = refl
@@ -158,7 +158,7 @@ declared = record {
 
 stands : Stands small declared
 unfolding refusal word_fault lines_of words_of bytes_fault form_fault root_objects calls lines first_form second_form third_form form call_from root_from
-    declaration window_in owner_in pe_in is_taken roots_in calls_in vpe_in has_service offer_in is_denied kill_in call_number is_ended context_fault
+    declaration window_in owner_in pe_in is_pe_taken roots_in calls_in vpe_in has_service offer_in is_denied kill_in call_number is_ended context_fault
     body_fault words_fault line_fault
     numbers fault_at first_fault version_of kernels_of declarations_of end_fault vpes_of services_of offers_of denies_of kills_of setup_of services_from
 stands = record { accepted = refl; declared = refl }

@@ -32,12 +32,12 @@ kind_row Exits = 12
 kind_row Clears = 13
 
 -- the name and the places of the calls of a kind
-abbrev pub call_row : ℕ → CallKind → List ℕ × List Place
-call_row version kind = slice_index_or (calls version) (kind_row kind) ([], [])
+abbrev pub call_spelling : ℕ → CallKind → List ℕ × List Place
+call_spelling version kind = slice_index_or (calls version) (kind_row kind) ([], [])
 
 -- it tells the name and the places of its kind
 abbrev pub IsRow : CallForm → Type 0
-IsRow form = (version : ℕ) → form_of version form ≡ call_row version form.kind
+IsRow form = (version : ℕ) → form_of version form ≡ call_spelling version form.kind
 
 -- the call of that kind with these numbers
 abbrev pub call_with : CallKind → List ℕ → Call

@@ -6,7 +6,7 @@ use Rattle.sem_trace.specs.declared.fault.Cause.TheVariants.{OutOfRange, Undecla
 use Rattle.sem_trace.specs.declared.declaration.Declaration.{Declaration}
 use Rattle.sem_trace.specs.declared.declaration.Declaration.TheVariants.{Kernels, Window, Pe, Vpe, Memory, Receive}
 use Rattle.sem_trace.specs.declared.declaration.Declaration.TheVariants.{Service, Offer, Deny, Kill, Call, End}
-use Rattle.sem_trace.specs.Earlier.{window_in, owner_in, pe_in, is_taken, roots_in, holds_at, has_service, offer_in}
+use Rattle.sem_trace.specs.Earlier.{window_in, owner_in, pe_in, is_pe_taken, roots_in, holds_at, has_service, offer_in}
 use Rattle.sem_trace.specs.Earlier.{is_denied, kill_in, call_number}
 use Rattle.sem_trace.specs.Forms.{at_word}
 
@@ -37,7 +37,7 @@ abbrev pub is_twice : List Declaration → Declaration → Bool
 is_twice earlier (Kernels kernels) = true
 is_twice earlier (Window window) = is_some (window_in earlier)
 is_twice earlier (Pe p kernel) = is_some (owner_in earlier p)
-is_twice earlier (Vpe v p) = is_some (pe_in earlier v) || is_taken earlier p
+is_twice earlier (Vpe v p) = is_some (pe_in earlier v) || is_pe_taken earlier p
 is_twice earlier (Memory v s base len rights) = holds_at (roots_in earlier v) s
 is_twice earlier (Receive v s slots) = holds_at (roots_in earlier v) s
 is_twice earlier (Service v s name) = holds_at (roots_in earlier v) s || has_service earlier name

@@ -45,8 +45,8 @@ abbrev pub says_on : ℕ → Declaration → Bool
 says_on p (Vpe v q) = q == p
 says_on p d = false
 
-unfoldable pub is_taken : List Declaration → ℕ → Bool
-is_taken ds p = list_any (says_on p) ds
+unfoldable pub is_pe_taken : List Declaration → ℕ → Bool
+is_pe_taken ds p = list_any (says_on p) ds
 
 -- what a VPE holds at the start
 abbrev pub said_root : ℕ → Declaration → Option Root

@@ -9,6 +9,7 @@ pub mod Declarations
 pub mod Earlier
 pub mod Context
 pub mod Refusal
+pub mod LinesRead
 pub mod SetupOfText
 pub mod Slots
 pub mod MessageForms

@@ -15,11 +15,13 @@ use Rattle.sem_trace.specs.declared.message_forms.MessageKind.TheVariants.{Obtai
 use Rattle.sem_trace.specs.declared.message_forms.MessageKind.TheVariants.{DelegatePrepared, DelegateNo, Ack, Orphan}
 use Rattle.sem_trace.specs.declared.message_forms.MessageKind.TheVariants.{RevokeReq, RevokeDone, Unlink}
 use Rattle.sem_trace.specs.declared.message_forms.Form.{Form}
-use Rattle.sem_trace.specs.declared.message_forms.TheConstants.{MEMORY, RECEIVE_GATE, SEND_GATE, NAMED_SERVICE, SESSION}
+use Rattle.sem_trace.specs.declared.message_forms.TheConstants.{MEMORY, RECEIVE_GATE, SEND_GATE}
+use Rattle.sem_trace.specs.declared.message_forms.TheConstants.{NAMED_SERVICE, SESSION}
 use Rattle.sem_trace.specs.declared.message_forms.TheConstants.{SELECTOR_TARGET, SERVICE_TARGET, OFFER_TARGET}
 use Rattle.sem_trace.specs.declared.message_forms.TheConstants.{OBTAIN_REQ, OBTAIN_OK, OBTAIN_NO, DELEGATE_REQ}
 use Rattle.sem_trace.specs.declared.message_forms.TheConstants.{DELEGATE_NO, ACK, REVOKE_REQ, REVOKE_DONE, TWO_KEYS}
-use Rattle.sem_trace.specs.Forms.{Place, Table, choice, word_at, up_to, node, byte, rights, slots, word, key, key_place}
+use Rattle.sem_trace.specs.Forms.{Place, Table, choice, word_at, up_to, node, byte, rights, slots}
+use Rattle.sem_trace.specs.Forms.{word, key, key_place}
 use Rattle.sem_trace.specs.Forms.Place.{Word}
 use Rattle.sem_trace.specs.Slots.{slot_place}
 

@@ -38,20 +38,29 @@ words_fault [] words = word_fault first_form words
 words_fault (first ∷ []) words = word_fault (second_form (version_in first)) words
 words_fault (first ∷ second ∷ earlier) words = body_fault (version_in first) (number_at second 1) earlier words
 
--- what is wrong with a line after such lines
+-- what is wrong with a line after such lines, where words_fault tells what is wrong with its words
+abbrev pub line_fault_by : (words_fault : List (List (List ℕ)) → List (List ℕ) → Option LineFault) →
+    List (List (List ℕ)) → List ℕ → Option LineFault
+line_fault_by words_fault earlier line = option_or (option_map whole_line (bytes_fault line))
+    (if is_significant (words_of line) then words_fault earlier (words_of line) else None)
+
 unfoldable pub line_fault : List (List (List ℕ)) → List ℕ → Option LineFault
-line_fault earlier line = option_or (option_map whole_line (bytes_fault line)) (if is_significant (words_of line)
-    then words_fault earlier (words_of line) else None)
+line_fault earlier line = line_fault_by words_fault earlier line
 
 -- the numbers below n
 unfoldable pub numbers : ℕ → List ℕ
 numbers n = range_with_len 0 n
 
--- the fault of the line at a place, counted from 0, after all lines before it
-unfoldable pub fault_at : List (List ℕ) → ℕ → Option TraceFault
-fault_at lines i =
+-- the fault of the line at a place, counted from 0, after all lines before it, where line_fault
+-- tells what is wrong with a line
+abbrev pub fault_by : (line_fault : List (List (List ℕ)) → List ℕ → Option LineFault) →
+    List (List ℕ) → ℕ → Option TraceFault
+fault_by line_fault lines i =
     option_map (λ fault. record { line = i + 1; word = fault.word; cause = fault.cause })
     (line_fault (significant (take i lines)) (slice_index_or lines i []))
+
+unfoldable pub fault_at : List (List ℕ) → ℕ → Option TraceFault
+fault_at lines i = fault_by line_fault lines i
 
 -- the first fault of a line
 unfoldable pub first_fault : List (List ℕ) → Option TraceFault

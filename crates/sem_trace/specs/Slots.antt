@@ -1,11 +1,13 @@
 -- Which numbers can stand in a place of a line, by their meaning ("The trace" in docs/texts.md).
 use Rattle.std.specs.Prelude.{ℕ, ◌-◌, List, map}
 use Rattle.sem_trace.specs.declared.slots.Slot.{Slot}
-use Rattle.sem_trace.specs.declared.slots.Slot.TheVariants.{Selector, ServiceName, OfferIndex, Endpoint, Rights, Base}
-use Rattle.sem_trace.specs.declared.slots.Slot.TheVariants.{Length, Offset, Label, SlotCount, Credits, Vpe, Pe}
-use Rattle.sem_trace.specs.declared.slots.Slot.TheVariants.{KernelCount, Kernel, Window, Replies, Code, Job, CallNumber}
+use Rattle.sem_trace.specs.declared.slots.Slot.TheVariants.{Selector, ServiceName, OfferIndex, Endpoint}
+use Rattle.sem_trace.specs.declared.slots.Slot.TheVariants.{Rights, Base, Length, Offset, Label, SlotCount, Credits}
+use Rattle.sem_trace.specs.declared.slots.Slot.TheVariants.{Vpe, Pe, KernelCount, Kernel}
+use Rattle.sem_trace.specs.declared.slots.Slot.TheVariants.{Window, Replies, Code, Job, CallNumber}
 use Rattle.sem_trace.specs.declared.call_forms.CallForm.{CallForm}
-use Rattle.sem_trace.specs.Forms.{Place, up_to, node, byte, endpoint_place, rights, slots, word, kernel_count, window}
+use Rattle.sem_trace.specs.Forms.{Place, up_to, node, byte, endpoint_place, rights, slots}
+use Rattle.sem_trace.specs.Forms.{word, kernel_count, window}
 
 -- the place of a number of that meaning, in a text of that version with that many kernels
 abbrev pub slot_place : (version kernels : ℕ) → Slot → Place

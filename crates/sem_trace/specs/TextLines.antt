@@ -1,6 +1,6 @@
 -- The lines of a text and the words of a line ("Lines and words" in docs/texts.md).
-use Rattle.std.specs.Prelude.{ℕ, ◌==◌, nat_le, nat_lt, Bool, true, false, not, ◌&&◌, ◌||◌, List, [], ◌∷◌, length, map}
-use Rattle.std.specs.Prelude.{filter, Option, Some, None, if◌then◌else◌}
+use Rattle.std.specs.Prelude.{ℕ, ◌==◌, nat_le, nat_lt, Bool, true, false, not, ◌&&◌, ◌||◌, List, [], ◌∷◌, ◌++◌}
+use Rattle.std.specs.Prelude.{length, map, filter, Option, Some, None, if◌then◌else◌}
 use Rattle.std.specs.List.{slice_split, list_all}
 use Rattle.sem_text.specs.Words.{is_blank}
 use Rattle.sem_trace.specs.declared.fault.Cause.{Cause}
@@ -37,6 +37,10 @@ is_significant (word ∷ words) = not (is_comment word)
 -- the words of those lines that say something
 abbrev pub significant : List (List ℕ) → List (List (List ℕ))
 significant lines = filter is_significant (map words_of lines)
+
+-- the words of such lines, and those of one line more, if it says something
+abbrev pub with_significant : List (List (List ℕ)) → List ℕ → List (List (List ℕ))
+with_significant lines line = if is_significant (words_of line) then lines ++ words_of line ∷ [] else lines
 
 -- a tab or a printable byte
 abbrev pub is_text : ℕ → Bool

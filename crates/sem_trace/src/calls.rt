@@ -2,7 +2,7 @@
 ghost use Rattle.std.specs.Prelude.{◌≡◌, ℕ, Some, map, IfOk, IfErr};
 ghost use Rattle.sem_trace.specs.Forms.{calls, place_fault};
 ghost use Rattle.sem_trace.specs.Forms.Place.{Word};
-ghost use Rattle.sem_trace.specs.CallForms.{IsRow, call_row, call_with};
+ghost use Rattle.sem_trace.specs.CallForms.{IsRow, call_spelling, call_with};
 ghost use Rattle.sem_trace.specs.Places.{CanStandIn};
 ghost use Rattle.sem_trace.specs.Readers.{ReadsCall};
 
@@ -41,68 +41,39 @@ fn named(name: &[u8]) -> Result<&'static CallForm, Cause>
     Err(Cause::UnknownWord)
 }
 
+// The call with these fields, which are the first of the numbers, in this order.
+macro_rules! call {
+    ($numbers:ident => $kind:ident { $($field:ident: $number:ty),+ }) => {{
+        let [$($field),+, ..] = $numbers;
+        Call::$kind {
+            $($field: $field as $number),+
+        }
+    }};
+}
+
 // The call of that kind with these numbers.
 #[inline]
 #[tactic(auto, using(crate::proofs::Nodes::few_vpes), unfolding(crate::specs::Forms::calls))]
 fn call_of(kind: CallKind, numbers: [u64; 5]) -> Call
-    requires { (version : ℕ) × CanStandIn (call_row version kind).1 numbers }
+    requires { (version : ℕ) × CanStandIn (call_spelling version kind).1 numbers }
     ensures { result ≡ call_with kind numbers }
 {
-    let [first, second, third, fourth, fifth] = numbers;
     match kind {
-        CallKind::Derive => Call::Derive {
-            src: first as u8,
-            dst: second as u8,
-            off: third as u32,
-            len: fourth as u32,
-            rights: fifth as u8,
-        },
-        CallKind::Gate => Call::Gate {
-            src: first as u8,
-            dst: second as u8,
-            label: third as u32,
-            credits: fourth as u8,
-        },
-        CallKind::Obtain => Call::Obtain {
-            dst: first as u8,
-            vpe: second as u16,
-            src: third as u8,
-        },
-        CallKind::Delegate => Call::Delegate {
-            src: first as u8,
-            vpe: second as u16,
-            dst: third as u8,
-        },
-        CallKind::OpenSession => Call::OpenSession {
-            dst: first as u8,
-            name: second as u8,
-        },
-        CallKind::AskOffer => Call::AskOffer {
-            dst: first as u8,
-            session: second as u8,
-            index: third as u8,
-        },
-        CallKind::Revoke => Call::Revoke { src: first as u8 },
-        CallKind::Bind => Call::Bind {
-            ep: first as u8,
-            src: second as u8,
-        },
-        CallKind::Read => Call::Read {
-            ep: first as u8,
-            off: second as u32,
-            len: third as u32,
-        },
-        CallKind::Write => Call::Write {
-            ep: first as u8,
-            off: second as u32,
-            len: third as u32,
-        },
-        CallKind::Send => Call::Send {
-            ep: first as u8,
-            len: second as u32,
-        },
-        CallKind::Credit => Call::Credit { ep: first as u8 },
+        CallKind::Derive => {
+            call!(numbers => Derive { src: u8, dst: u8, off: u32, len: u32, rights: u8 })
+        }
+        CallKind::Gate => call!(numbers => Gate { src: u8, dst: u8, label: u32, credits: u8 }),
+        CallKind::Obtain => call!(numbers => Obtain { dst: u8, vpe: u16, src: u8 }),
+        CallKind::Delegate => call!(numbers => Delegate { src: u8, vpe: u16, dst: u8 }),
+        CallKind::OpenSession => call!(numbers => OpenSession { dst: u8, name: u8 }),
+        CallKind::AskOffer => call!(numbers => AskOffer { dst: u8, session: u8, index: u8 }),
+        CallKind::Revoke => call!(numbers => Revoke { src: u8 }),
+        CallKind::Bind => call!(numbers => Bind { ep: u8, src: u8 }),
+        CallKind::Read => call!(numbers => Read { ep: u8, off: u32, len: u32 }),
+        CallKind::Write => call!(numbers => Write { ep: u8, off: u32, len: u32 }),
+        CallKind::Send => call!(numbers => Send { ep: u8, len: u32 }),
+        CallKind::Credit => call!(numbers => Credit { ep: u8 }),
         CallKind::Exit => Call::Exit,
-        CallKind::Clear => Call::Clear { src: first as u8 },
+        CallKind::Clear => call!(numbers => Clear { src: u8 }),
     }
 }

@@ -2,7 +2,7 @@
 ghost use Rattle.std.specs.Prelude.{◌≡◌, ◌+◌, ◌*◌, ◌<◌, ◌≤◌, ◌∷◌, ◌++◌, length, map, decimal};
 ghost use Rattle.std.specs.Prelude.{vec_len, vec_capacity};
 ghost use Rattle.sem_text.specs.Lines.{behind_blanks};
-ghost use Rattle.sem_trace.specs.CallForms.{call_row};
+ghost use Rattle.sem_trace.specs.CallForms.{call_spelling};
 ghost use Rattle.sem_trace.specs.Words.{key_word, place_word, object_words, call_words};
 
 use crate::call_forms::{CallForm, CallKind};
@@ -159,10 +159,17 @@ pub fn put_object(out: &mut Vec<u8>, object: &Object)
 // The name of the calls of that kind.
 #[inline(always)]
 fn name_of(kind: CallKind) -> &'static [u8]
-    ensures name { result.now ≡ (call_row 1 kind).0 }
+    ensures name { result.now ≡ (call_spelling 1 kind).0 }
     ensures short { length result.now ≤ 8 }
 {
     CallForm::of(kind).name
+}
+
+// Appends the name of the calls of that kind, and behind it the numbers.
+macro_rules! put_form {
+    ($out:ident, $kind:ident, $($number:ident),+) => {
+        put_named($out, name_of(CallKind::$kind), &[$(u32::from(*$number)),+])
+    };
 }
 
 /// Appends the words of the call, each after a blank. There must be room for them.
@@ -180,73 +187,28 @@ pub fn put_call(out: &mut Vec<u8>, call: &Call)
             off,
             len,
             rights,
-        } => put_named(
-            out,
-            name_of(CallKind::Derive),
-            &[
-                u32::from(*src),
-                u32::from(*dst),
-                *off,
-                *len,
-                u32::from(*rights),
-            ],
-        ),
+        } => put_form!(out, Derive, src, dst, off, len, rights),
         Call::Gate {
             src,
             dst,
             label,
             credits,
-        } => put_named(
-            out,
-            name_of(CallKind::Gate),
-            &[
-                u32::from(*src),
-                u32::from(*dst),
-                *label,
-                u32::from(*credits),
-            ],
-        ),
-        Call::Obtain { dst, vpe, src } => put_named(
-            out,
-            name_of(CallKind::Obtain),
-            &[u32::from(*dst), u32::from(*vpe), u32::from(*src)],
-        ),
-        Call::Delegate { src, vpe, dst } => put_named(
-            out,
-            name_of(CallKind::Delegate),
-            &[u32::from(*src), u32::from(*vpe), u32::from(*dst)],
-        ),
-        Call::OpenSession { dst, name } => put_named(
-            out,
-            name_of(CallKind::OpenSession),
-            &[u32::from(*dst), u32::from(*name)],
-        ),
+        } => put_form!(out, Gate, src, dst, label, credits),
+        Call::Obtain { dst, vpe, src } => put_form!(out, Obtain, dst, vpe, src),
+        Call::Delegate { src, vpe, dst } => put_form!(out, Delegate, src, vpe, dst),
+        Call::OpenSession { dst, name } => put_form!(out, OpenSession, dst, name),
         Call::AskOffer {
             dst,
             session,
             index,
-        } => put_named(
-            out,
-            name_of(CallKind::AskOffer),
-            &[u32::from(*dst), u32::from(*session), u32::from(*index)],
-        ),
-        Call::Revoke { src } => put_named(out, name_of(CallKind::Revoke), &[u32::from(*src)]),
-        Call::Bind { ep, src } => put_named(
-            out,
-            name_of(CallKind::Bind),
-            &[u32::from(*ep), u32::from(*src)],
-        ),
-        Call::Read { ep, off, len } => {
-            put_named(out, name_of(CallKind::Read), &[u32::from(*ep), *off, *len])
-        }
-        Call::Write { ep, off, len } => {
-            put_named(out, name_of(CallKind::Write), &[u32::from(*ep), *off, *len])
-        }
-        Call::Send { ep, len } => {
-            put_named(out, name_of(CallKind::Send), &[u32::from(*ep), *len])
-        }
-        Call::Credit { ep } => put_named(out, name_of(CallKind::Credit), &[u32::from(*ep)]),
+        } => put_form!(out, AskOffer, dst, session, index),
+        Call::Revoke { src } => put_form!(out, Revoke, src),
+        Call::Bind { ep, src } => put_form!(out, Bind, ep, src),
+        Call::Read { ep, off, len } => put_form!(out, Read, ep, off, len),
+        Call::Write { ep, off, len } => put_form!(out, Write, ep, off, len),
+        Call::Send { ep, len } => put_form!(out, Send, ep, len),
+        Call::Credit { ep } => put_form!(out, Credit, ep),
         Call::Exit => put_word(out, name_of(CallKind::Exit)),
-        Call::Clear { src } => put_named(out, name_of(CallKind::Clear), &[u32::from(*src)]),
+        Call::Clear { src } => put_form!(out, Clear, src),
     }
 }

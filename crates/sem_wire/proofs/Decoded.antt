@@ -16,9 +16,9 @@ use Rattle.sem_wire.specs.declared.fault.WireFault.{WireFault}
 use Rattle.sem_wire.specs.declared.fault.WireFault.TheVariants.{Tag, Field}
 use Rattle.sem_wire.specs.declared.rows.Rows.{Rows}
 use Rattle.sem_wire.specs.Records.{blank, message_rows}
-use Rattle.sem_wire.specs.Grammar.{grammar, first_fault}
+use Rattle.sem_wire.specs.Grammar.{grammar, first_wire_fault}
 use Rattle.sem_wire.specs.Reading.{◌>>=◌, allowed, unused, key_in, key_at, kind_key_at, place_at, no_index, no_object, no_job, object_in, sel_in}
-use Rattle.sem_wire.specs.Reading.{serv_target_in, offer_in, obtain_req_in, obtain_ok_in, obtain_no_in, delegate_req_in, delegate_no_in, ack_in, two_keys_in}
+use Rattle.sem_wire.specs.Reading.{serv_target_in, offer_target_in, obtain_req_in, obtain_ok_in, obtain_no_in, delegate_req_in, delegate_no_in, ack_in, two_keys_in}
 use Rattle.sem_wire.specs.Reading.{of_two, revoke_req_in, revoke_done_in, message_read}
 use Rattle.sem_wire.proofs.SameRows.{same_rows}
 use Rattle.sem_wire.proofs.Words.{both, in_range, out_of_range, word_again}
@@ -101,8 +101,8 @@ serv_target_decoded r m e =
           (sym rest.1.after_kind) (sym rest.1.main) (sym rest.1.more) (sym rest.1.last) (sym rest.1.after_last);
     })
 
-offer_decoded : (r : Rows) (m : Message) → offer_in (record r { tag = 1; form = 3 }) ≡ Ok m → IsDecoded (record r { tag = 1; form = 3 }) m
-unfolding offer_in
+offer_decoded : (r : Rows) (m : Message) → offer_target_in (record r { tag = 1; form = 3 }) ≡ Ok m → IsDecoded (record r { tag = 1; form = 3 }) m
+unfolding offer_target_in
 offer_decoded r m e =
     let s : Rows = record r { tag = 1; form = 3 } in
     let place = place_of (key_in (r.first + 2 ^ 32)) in
@@ -139,9 +139,9 @@ obtain_req_decoded r m e = by_form r.form r e
         absurd (others (record r { tag = 1; form = suc (suc (suc (suc n))) }) (λ k lt. ne_eqb _ k (λ same. omega (arith, lt, same))) e)
       where
         others : (s : Rows) → ((k : ℕ) → k < 4 → (s.form == k) ≡ false) → obtain_req_in s ≡ Ok m → ⊥
-        others s none e = refused (subst (λ b. (if b then offer_in s else Err (Field 1)) ≡ Ok m) (none 3 (omega arith))
-            (subst (λ b. (if b then serv_target_in s else if s.form == 3 then offer_in s else Err (Field 1)) ≡ Ok m) (none 2 (omega arith))
-            (subst (λ b. (if b then sel_in s else if s.form == 2 then serv_target_in s else if s.form == 3 then offer_in s else Err (Field 1)) ≡ Ok m)
+        others s none e = refused (subst (λ b. (if b then offer_target_in s else Err (Field 1)) ≡ Ok m) (none 3 (omega arith))
+            (subst (λ b. (if b then serv_target_in s else if s.form == 3 then offer_target_in s else Err (Field 1)) ≡ Ok m) (none 2 (omega arith))
+            (subst (λ b. (if b then sel_in s else if s.form == 2 then serv_target_in s else if s.form == 3 then offer_target_in s else Err (Field 1)) ≡ Ok m)
             (none 1 (omega arith)) e)))
 
 -- ---- the others
@@ -391,5 +391,5 @@ message_decoded r m low e = by_tag r.tag r low e
     by_tag (suc (suc (suc (suc (suc (suc (suc (suc (suc (suc (suc (suc n)))))))))))) r low e =
         let s : Rows = record r { tag = suc (suc (suc (suc (suc (suc (suc (suc (suc (suc (suc (suc n))))))))))) } in
         let fault : fault_in (message_read s) ≡ Some Tag = reads_to_the_fault s
-        ∙ ap (λ b. if b then first_fault (grammar s) else Some Tag) (out_of_range 1 11 s.tag (omega arith)) in
+        ∙ ap (λ b. if b then first_wire_fault (grammar s) else Some Tag) (out_of_range 1 11 s.tag (omega arith)) in
         absurd (no_fault (sym (ap fault_in e) ∙ fault))

@@ -16,10 +16,10 @@ use Rattle.sem_msg.specs.declared.message.Message.TheVariants.{ObtainReq, Obtain
 use Rattle.sem_msg.specs.declared.message.Message.TheVariants.{RevokeDone, Unlink}
 use Rattle.sem_msg.specs.Message.{Fits, IsDelegable}
 use Rattle.sem_wire.specs.declared.rows.Rows.{Rows}
-use Rattle.sem_wire.specs.Records.{blank, place_word, message_rows, with_object}
+use Rattle.sem_wire.specs.Records.{blank, packed_place, message_rows, with_object}
 use Rattle.sem_wire.specs.Grammar.{kind_in}
 use Rattle.sem_wire.specs.Reading.{◌>>=◌, allowed, key_at, kind_key_at, place_at, no_index, no_object, no_job, mem_in, recv_in, send_in, serv_in, sess_in}
-use Rattle.sem_wire.specs.Reading.{object_in, sel_in, serv_target_in, offer_in, obtain_ok_in, obtain_no_in, delegate_req_in, delegate_no_in, ack_in}
+use Rattle.sem_wire.specs.Reading.{object_in, sel_in, serv_target_in, offer_target_in, obtain_ok_in, obtain_no_in, delegate_req_in, delegate_no_in, ack_in}
 use Rattle.sem_wire.specs.Reading.{two_keys_in, revoke_req_in, revoke_done_in, message_read}
 use Rattle.sem_wire.proofs.Words.{range_in, key_again, key_passes}
 
@@ -42,11 +42,11 @@ kind_key_reads at k v = rw (key_reads at k v) (same k.kind)
 kind_key_as : (at : ℕ) (k : KeyName) (kind : Kind) → IsValidKey k → k.kind ≡ kind → kind_key_at at (kind_number kind) (packed k) ≡ Ok k
 kind_key_as at k kind v e = ap (λ kind. kind_key_at at (kind_number kind) (packed k)) (sym e) ∙ kind_key_reads at k v
 
-place_reads : (at : ℕ) (p : PlaceName) → IsValidPlace p → place_at at (place_word p) ≡ Ok p
+place_reads : (at : ℕ) (p : PlaceName) → IsValidPlace p → place_at at (packed_place p) ≡ Ok p
 unfolding place_at
 place_reads at p v =
-    let none : kind_in (place_word p) ≡ 0 = omega (arith, v.0, v.1, v.2) in
-    let word : place_word p + 2 ^ 32 ≡ packed (keyed p MemKind) = omega arith in
+    let none : kind_in (packed_place p) ≡ 0 = omega (arith, v.0, v.1, v.2) in
+    let word : packed_place p + 2 ^ 32 ≡ packed (keyed p MemKind) = omega arith in
     rw (none, word, key_reads at (keyed p MemKind) v) refl
 
 -- ---- objects
@@ -78,8 +78,8 @@ unfolding serv_target_in no_index no_job no_object
 serv_target_again p k v = rw (place_reads 8 p v.0, kind_key_as 16 k ServKind v.1.0 v.1.1) refl
 
 offer_again : (p : PlaceName) (k : KeyName) (n : ℕ) → Fits (ObtainReq p (OfferTarget k n)) →
-    offer_in (message_rows (ObtainReq p (OfferTarget k n))) ≡ Ok (ObtainReq p (OfferTarget k n))
-unfolding offer_in no_job no_object
+    offer_target_in (message_rows (ObtainReq p (OfferTarget k n))) ≡ Ok (ObtainReq p (OfferTarget k n))
+unfolding offer_target_in no_job no_object
 offer_again p k n v = rw (lt-ltb n (2 ^ 8) (omega (arith, v.1.1)), place_reads 8 p v.0, kind_key_as 16 k ServKind v.1.0.0 v.1.0.1) refl
 
 obtain_ok_again : (parent key : KeyName) (o : Object) → Fits (ObtainOk parent key o) →

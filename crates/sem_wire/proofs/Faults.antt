@@ -11,7 +11,7 @@ use Rattle.sem_msg.specs.declared.message.Message.{Message}
 use Rattle.sem_msg.specs.declared.message.Message.TheVariants.{DelegatePrepared, Orphan, Unlink}
 use Rattle.sem_wire.specs.Grammar.{Row, row_with, gap, grammar, wire_fault, kind_in, is_key, is_owned, main_allowed, more_allowed, last_allowed}
 use Rattle.sem_wire.specs.Reading.{◌>>=◌, allowed, unused, kind_key_at, kind_at, no_index, no_object, no_job, mem_in, recv_in, send_in, serv_in, sess_in}
-use Rattle.sem_wire.specs.Reading.{of_kind, object_in, sel_in, serv_target_in, offer_in, obtain_req_in, obtain_ok_in, obtain_no_in, delegate_req_in}
+use Rattle.sem_wire.specs.Reading.{of_kind, object_in, sel_in, serv_target_in, offer_target_in, obtain_req_in, obtain_ok_in, obtain_no_in, delegate_req_in}
 use Rattle.sem_wire.specs.Reading.{delegate_no_in, ack_in, two_keys_in, of_two, revoke_req_in, revoke_done_in, message_read}
 use Rattle.std.proofs.lemmas.Bool.{ne_eqb, eqb-true}
 use Rattle.sem_wire.proofs.Words.{both, renumbered, in_range, range_in, out_of_range}
@@ -118,8 +118,8 @@ SaysSo tag reader = (r : Rows) → Says (reader (record r { tag = tag })) (gramm
 -- the rows behind a last key or place
 abbrev rest_says : (s : Rows) (b24 b28 b32 b40 b48 : Bool) {B : Type 0} (x : B) → Type 0
 rest_says s b24 b28 b32 b40 b48 x =
-    Says (no_job s >>= λ rest. Ok x) (row_with 24 s.job false b24 ∷ row_with 28 s.kind false b28 ∷ gap 29 s.after_kind ∷ row_with 32 s.main false b32 ∷ row_with 40 s.more false b40
-    ∷ row_with 48 s.last false b48 ∷ gap 56 s.after_last ∷ [])
+    Says (no_job s >>= λ rest. Ok x) (row_with 24 s.job false b24 ∷ row_with 28 s.kind false b28 ∷ gap 29 s.after_kind
+    ∷ row_with 32 s.main false b32 ∷ row_with 40 s.more false b40 ∷ row_with 48 s.last false b48 ∷ gap 56 s.after_last ∷ [])
 
 rest : (s : Rows) (b24 b28 b32 b40 b48 : Bool) {B : Type 0} (x : B) → rest_says s b24 b28 b32 b40 b48 x
 rest s b24 b28 b32 b40 b48 x = then_says (no_job s) (λ rest. x) _ (no_job_fault s b24 b28 b32 b40 b48)
@@ -138,7 +138,7 @@ serv_target_says r =
     passed 1 2 _ _ (no_index_step s _ _ _ _ (place_step 8 r.first _ _ (λ _. kind_key_step 16 4 r.second refl _ _ (λ _. rest s _ _ _ _ _ _))))
 
 offer_says : (r : Rows) → Says (obtain_req_in (record r { tag = 1; form = 3 })) (grammar (record r { tag = 1; form = 3 }))
-unfolding offer_in
+unfolding offer_target_in
 offer_says r =
     let s : Rows = record r { tag = 1; form = 3 } in
     passed 1 3 _ _ (unused_step 2 r.vpe _ _ _ (allowed_step 4 r.index _ _ _ (λ _. unused_step 6 r.after_index _ _ _ (

@@ -7,7 +7,7 @@ use Rattle.sem_key.specs.PlaceName.{PlaceName, IsValidPlace}
 use Rattle.sem_wire.specs.declared.fault.WireFault.{WireFault}
 use Rattle.sem_wire.specs.declared.fault.WireFault.TheVariants.{Field, Padding}
 use Rattle.sem_wire.specs.declared.rows.Rows.{Rows}
-use Rattle.sem_wire.specs.Records.{place_word}
+use Rattle.sem_wire.specs.Records.{packed_place}
 use Rattle.sem_wire.specs.Grammar.{kind_in, is_key}
 use Rattle.sem_wire.specs.Reading.{◌>>=◌, allowed, unused, key_in, kind_at, key_at, kind_key_at, place_at, no_index, no_object, no_job}
 use Rattle.sem_wire.proofs.Words.{word_again}
@@ -63,7 +63,7 @@ module _ {B : Type 0} where
 
 -- the place of such a word
 pub place_again : (w : ℕ) → kind_in w ≡ 0 → is_key (w + 2 ^ 32) ≡ true → IsValidPlace (place_of (key_in (w + 2 ^ 32)))
-    × (place_word (place_of (key_in (w + 2 ^ 32))) ≡ w)
+    × (packed_place (place_of (key_in (w + 2 ^ 32))) ≡ w)
 place_again w none is =
     let kind : kind_in (w + 2 ^ 32) ≡ 1 = omega (arith, none) in
     let found = word_again (w + 2 ^ 32) is in

@@ -17,7 +17,7 @@ use Rattle.sem_msg.specs.declared.message.Message.{Message}
 use Rattle.sem_msg.specs.Message.{Fits}
 use Rattle.sem_wire.specs.declared.fault.WireFault.{WireFault}
 use Rattle.sem_wire.specs.declared.rows.Rows.{Rows}
-use Rattle.sem_wire.specs.Records.{blank, place_word, record_of, rows_in, message_rows, spelled, with_object}
+use Rattle.sem_wire.specs.Records.{blank, packed_place, record_of, rows_in, message_rows, spelled, with_object}
 use Rattle.sem_wire.specs.Grammar.{wire_fault}
 use Rattle.sem_wire.specs.Reading.{message_read}
 use Rattle.sem_wire.specs.MessageOfBytes.{message_of, IsRecord}
@@ -38,7 +38,7 @@ small_kind SessKind = omega arith
 key_wide : (k : KeyName) → IsValidKey k → packed k < 256 ^ 8
 key_wide k v = let kind = small_kind k.kind in omega (arith, v.0, v.1, v.2, kind)
 
-place_wide : (p : PlaceName) → IsValidPlace p → place_word p < 256 ^ 8
+place_wide : (p : PlaceName) → IsValidPlace p → packed_place p < 256 ^ 8
 place_wide p v = omega (arith, v.0, v.1, v.2)
 
 nothing : (n : ℕ) → 0 < 256 ^ n

@@ -113,10 +113,11 @@ row_fault row_with =
     else Some (Padding row_with.at)
 
 -- the fault of the first wrong row
-unfoldable pub first_fault : List Row → Option WireFault
-first_fault [] = None
-first_fault (row_with ∷ rows) = elim (row_fault row_with) [ Some fault ↦ Some fault | None ↦ first_fault rows ]
+unfoldable pub first_wire_fault : List Row → Option WireFault
+first_wire_fault [] = None
+first_wire_fault (row_with ∷ rows) =
+    elim (row_fault row_with) [ Some fault ↦ Some fault | None ↦ first_wire_fault rows ]
 
 -- what is wrong with a record with these numbers in its rows
 abbrev pub wire_fault : Rows → Option WireFault
-wire_fault r = if is_in_range 1 11 r.tag then first_fault (grammar r) else Some Tag
+wire_fault r = if is_in_range 1 11 r.tag then first_wire_fault (grammar r) else Some Tag

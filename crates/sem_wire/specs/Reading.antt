@@ -168,8 +168,8 @@ serv_target_in r = do
   rest ← no_job r
   Ok (ObtainReq place (ServTarget service))
 
-unfoldable pub offer_in : Rows → Result Message WireFault
-offer_in r = do
+unfoldable pub offer_target_in : Rows → Result Message WireFault
+offer_target_in r = do
   vpe ← unused 2 r.vpe
   index ← allowed 4 (nat_lt r.index (2 ^ 8))
   gap ← unused 6 r.after_index
@@ -182,7 +182,7 @@ abbrev pub obtain_req_in : Rows → Result Message WireFault
 obtain_req_in r =
     if r.form == 1 then sel_in r
     else if r.form == 2 then serv_target_in r
-    else if r.form == 3 then offer_in r
+    else if r.form == 3 then offer_target_in r
     else Err (Field 1)
 
 unfoldable pub obtain_ok_in : Rows → Result Message WireFault

@@ -12,8 +12,8 @@ use Rattle.sem_msg.specs.declared.message.Message.TheVariants.{RevokeDone, Unlin
 use Rattle.sem_wire.specs.declared.rows.Rows.{Rows}
 
 -- the word of a place: that of a key, with 0 in place of the kind
-abbrev pub place_word : PlaceName → ℕ
-place_word p = p.pe * 2 ^ 56 + p.vpe * 2 ^ 40 + p.number
+abbrev pub packed_place : PlaceName → ℕ
+packed_place p = p.pe * 2 ^ 56 + p.vpe * 2 ^ 40 + p.number
 
 -- empty rows
 abbrev pub blank : Rows
@@ -49,24 +49,24 @@ message_rows (ObtainReq place (SelTarget vpe sel)) = record blank {
   form = 1;
   vpe = vpe;
   index = sel;
-  first = place_word place;
+  first = packed_place place;
 }
 message_rows (ObtainReq place (ServTarget service)) = record blank {
   tag = 1;
   form = 2;
-  first = place_word place;
+  first = packed_place place;
   second = packed service;
 }
 message_rows (ObtainReq place (OfferTarget service index)) = record blank {
   tag = 1;
   form = 3;
   index = index;
-  first = place_word place;
+  first = packed_place place;
   second = packed service;
 }
 message_rows (ObtainOk parent key object) =
     with_object object (record blank { tag = 2; first = packed parent; second = packed key })
-message_rows (ObtainNo place code) = record blank { tag = 3; form = code; first = place_word place }
+message_rows (ObtainNo place code) = record blank { tag = 3; form = code; first = packed_place place }
 message_rows (DelegateReq parent object vpe sel) =
     with_object object (record blank { tag = 4; vpe = vpe; index = sel; first = packed parent })
 message_rows (DelegatePrepared parent key) = record blank { tag = 5; first = packed parent; second = packed key }

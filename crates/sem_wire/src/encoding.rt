@@ -2,8 +2,9 @@ ghost use Rattle.std.specs.Prelude.{◌≡◌};
 ghost use Rattle.sem_key.specs.KeyName.{packed};
 ghost use Rattle.sem_msg.specs.Message.{Fits};
 ghost use Rattle.sem_msg.specs.declared.message.Message.TheVariants.{ObtainReq};
-ghost use Rattle.sem_wire.specs.Records.{blank, place_word as place_word_spec, record_of};
-ghost use Rattle.sem_wire.specs.Records.{message_rows as rows_of_spec, with_object as with_object_spec};
+ghost use Rattle.sem_wire.specs.Records.{blank, packed_place as place_word_spec, record_of};
+ghost use Rattle.sem_wire.specs.Records.{message_rows as rows_of_spec};
+ghost use Rattle.sem_wire.specs.Records.{with_object as with_object_spec};
 
 use crate::rows::{RECORD, Rows, spell};
 use sem_key::{Key, Kind, Object, Place, keyed, pack};
@@ -57,16 +58,8 @@ fn rows_of(message: &Message) -> Rows
             parent,
             key,
             object,
-        } => Rows {
-            first: pack(parent),
-            second: pack(key),
-            ..with_object(&object, tagged(2))
-        },
-        Message::ObtainNo { place, code } => Rows {
-            form: code,
-            first: place_word(place),
-            ..tagged(3)
-        },
+        } => with_object(&object, two_keys(2, parent, key)),
+        Message::ObtainNo { place, code } => answer(3, code, place_word(place)),
         Message::DelegateReq {
             parent,
             object,
@@ -79,16 +72,8 @@ fn rows_of(message: &Message) -> Rows
             ..with_object(&object, tagged(4))
         },
         Message::DelegatePrepared { parent, key } => two_keys(5, parent, key),
-        Message::DelegateNo { parent, code } => Rows {
-            form: code,
-            first: pack(parent),
-            ..tagged(6)
-        },
-        Message::Ack { key, yes } => Rows {
-            form: u8::from(yes),
-            first: pack(key),
-            ..tagged(7)
-        },
+        Message::DelegateNo { parent, code } => answer(6, code, pack(parent)),
+        Message::Ack { key, yes } => answer(7, u8::from(yes), pack(key)),
         Message::Orphan { parent, key } => two_keys(8, parent, key),
         Message::RevokeReq { key, job } => Rows {
             first: pack(key),
@@ -127,6 +112,17 @@ fn obtain_req(place: Place, target: Target) -> Rows
             second: pack(service),
             ..rows
         },
+    }
+}
+
+// The numbers of a refusal or an acknowledgement: its code or yes, and its key or place.
+fn answer(tag: u8, form: u8, first: u64) -> Rows
+    ensures { result ≡ record blank { tag = tag; form = form; first = first } }
+{
+    Rows {
+        form,
+        first,
+        ..tagged(tag)
     }
 }
 

@@ -1,6 +1,7 @@
 ghost use Rattle.std.specs.Prelude.{◌≡◌};
 ghost use Rattle.sem_wire.specs.Reading.{ack_in, delegate_no_in, delegate_req_in, obtain_no_in};
-ghost use Rattle.sem_wire.specs.Reading.{obtain_ok_in, obtain_req_in, offer_in, revoke_done_in};
+ghost use Rattle.sem_wire.specs.Reading.{obtain_ok_in, obtain_req_in, offer_target_in};
+ghost use Rattle.sem_wire.specs.Reading.{revoke_done_in};
 ghost use Rattle.sem_wire.specs.Reading.{revoke_req_in, sel_in, serv_target_in, two_keys_in};
 
 use crate::fault::WireFault;
@@ -52,9 +53,9 @@ fn by_service(rows: &Rows) -> Result<Message, WireFault>
     Ok(Message::ObtainReq { place, target })
 }
 
-#[tactic(auto, unfolding(crate::specs::Reading::offer_in))]
+#[tactic(auto, unfolding(crate::specs::Reading::offer_target_in))]
 fn by_offer(rows: &Rows) -> Result<Message, WireFault>
-    ensures { result ≡ offer_in rows.now }
+    ensures { result ≡ offer_target_in rows.now }
 {
     unused(2, u64::from(rows.vpe))?;
     allowed(4, rows.index < 1 << 8)?;

@@ -1,12 +1,15 @@
 use Rattle.std.proofs.Common.{arith}
-use Rattle.sem_files.proofs.ReadText.{too_long, refused_lines, accepted_lines, if_ok, if_err}
+use Rattle.std.proofs.lemmas.Result.{IfOk-weaker, IfErr-weaker}
+use Rattle.sem_files.proofs.ReadText.{too_long, refused_lines, accepted_lines}
 use Rattle.sem_files.proofs.reader.read_files.Goals as goal
 
 pub returns-then-bytes-gt-TEXT_BYTES-clause-refused : goal.returns-then-bytes-gt-TEXT_BYTES-clause-refused
 returns-then-bytes-gt-TEXT_BYTES-clause-refused c = rw c.refused.ensures (too_long c.args.bytes.now (omega arith))
 
 pub returns-clause-stands : goal.returns-clause-stands
-returns-clause-stands c = if_ok c.read_all.result _ _ c.read_all.ensures.said (λ F say. accepted_lines c.args.bytes.now F (omega arith) say)
+returns-clause-stands c = IfOk-weaker c.read_all.result _ _ (λ F say. accepted_lines c.args.bytes.now F (omega arith) say)
+    c.read_all.ensures.said
 
 pub returns-clause-refused : goal.returns-clause-refused
-returns-clause-refused c = if_err c.read_all.result _ _ c.read_all.ensures.refused (λ e why. refused_lines c.args.bytes.now e (omega arith) why)
+returns-clause-refused c = IfErr-weaker c.read_all.result _ _ (λ e why. refused_lines c.args.bytes.now e (omega arith) why)
+    c.read_all.ensures.refused

@@ -1,36 +1,27 @@
-use Rattle.std.proofs.Common.{List, ℕ, ◌∷◌, ◌∙◌, ap}
 use Rattle.std.proofs.lemmas.List.Elements.{All-contains}
 use Rattle.std.proofs.lemmas.Result.{err_from_is_err_and}
-use Rattle.sem_trace.specs.MessageForms.{IsMessageRow}
-use Rattle.sem_journal.proofs.PartSteps.{message_filled, message_fails, no_message}
+use Rattle.sem_trace.specs.MessageForms.{messages, message_form, IsMessageRow}
+use Rattle.sem_journal.specs.EntryText.{message_words}
+use Rattle.sem_journal.specs.EntryRanges.{MessageFits}
+use Rattle.sem_journal.proofs.NamedParts.{message_rows, named_read, named_refused, name_refused}
 use Rattle.sem_journal.proofs.read_message.message.Goals as goal
 
 pub returns-in_default : goal.returns-in_default
-returns-in_default c = record {
-  reads = no_message c.args.version c.messages.result.now c.in_ok-name.name.now c.word.new.self c.args.words.now c.in_ok-name.ensures.ok
-      (c.messages.ensures.table c.args.version c.args.words.now) c.in_default.ensures;
-  fits = tt;
-}
+unfolding message_form
+returns-in_default c = name_refused c.args.version c.args.words.now c.messages.result.now (messages c.args.version c.args.words.now) message_words
+    (MessageFits c.args.version) _ _ _ c.in_ok-name.ensures.ok (c.messages.ensures.table c.args.version c.args.words.now) c.in_default.ensures
 
 pub returns : goal.returns
+unfolding message_form
 returns c =
-    let row : IsMessageRow c.in-Some.form.now = All-contains IsMessageRow c.messages.result.now c.in-Some.form.now c.messages.ensures.rows c.in-Some.ensures.0 in
-    record {
-      reads = record {
-        filled = message_filled c.args.version c.in-Some.form.now.kind c.in-Some.form.now.parts.now c.in_ok-name.name.now c.word.new.self c.args.words.now
-            c.parts.new.words row.parts (c.in-Some.ensures.1 ∙ row.name) c.in_ok-name.ensures.ok c.in_ok-values.ensures.reads.filled;
-        spelled = rw (c.message_from.ensures.words, ← row.parts, ← row.name, ← c.in-Some.ensures.1)
-            (c.in_ok-name.ensures.ok ∙ ap (λ (words : List (List ℕ)). c.in_ok-name.name.now ∷ words) c.in_ok-values.ensures.reads.spelled);
-      };
-      fits = c.message_from.ensures.fits c.args.version (rw row.parts at c.in_ok-values.ensures.fits);
-    }
+    let row : IsMessageRow c.in-Some.form.now = All-contains IsMessageRow _ _ c.messages.ensures.rows c.in-Some.ensures.0 in
+    named_read message_rows c.args.version message_words MessageFits c.in-Some.form.now _ _ _ _ _ _ row.name row.parts c.in-Some.ensures.1
+    c.in_ok-name.ensures.ok c.in_ok-values.ensures c.message_from.ensures.words c.message_from.ensures.fits
 
 pub returns-in_err-values : goal.returns-in_err-values
+unfolding message_form
 returns-in_err-values c =
-    let row : IsMessageRow c.in-Some.form.now = All-contains IsMessageRow c.messages.result.now c.in-Some.form.now c.messages.ensures.rows c.in-Some.ensures.0 in
+    let row : IsMessageRow c.in-Some.form.now = All-contains IsMessageRow _ _ c.messages.ensures.rows c.in-Some.ensures.0 in
     let p = err_from_is_err_and c.from_residual-in_err-values.result c.from_residual-in_err-values.ensures.1 in
-    rw (p.1, p.2) (record {
-      reads = message_fails c.args.version c.in-Some.form.now.kind c.in-Some.form.now.parts.now c.in_ok-name.name.now c.word.new.self c.args.words.now _
-          row.parts (c.in-Some.ensures.1 ∙ row.name) c.in_ok-name.ensures.ok c.in_err-values.ensures.reads;
-      fits = tt;
-    })
+    rw (p.1, p.2) (named_refused message_rows c.args.version message_words (MessageFits c.args.version) c.in-Some.form.now _ _ _ _ _ row.name row.parts
+    c.in-Some.ensures.1 c.in_ok-name.ensures.ok c.in_err-values.ensures)

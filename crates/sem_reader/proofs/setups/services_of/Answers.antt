@@ -3,7 +3,8 @@ use Rattle.std.specs.List.{filter_map}
 use Rattle.sem_msg.specs.declared.setup.Service.{Service}
 use Rattle.sem_trace.specs.Refusal.{numbers}
 use Rattle.sem_trace.specs.SetupOfText.{named, services_among, services_of}
-use Rattle.sem_reader.proofs.MoreItems.{numbers-none, more_number}
+use Rattle.sem_trace.proofs.ReadText.{numbers-none}
+use Rattle.sem_reader.proofs.MoreItems.{more_number}
 use Rattle.sem_reader.proofs.setups.services_of.Goals as goal
 
 pub loop-name-init : goal.loop-name-init

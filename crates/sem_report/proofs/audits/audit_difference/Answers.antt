@@ -1,4 +1,4 @@
-use Rattle.std.proofs.Common.{◌≡◌, ◌+◌, ◌∙◌, Some, ap, sym}
+use Rattle.std.proofs.Common.{◌+◌, ◌∙◌, Some, ap, sym}
 use Rattle.sem_report.proofs.AuditLines.{is-made_line, made-differ, cut-differ, counts-differ, none-differ, key-differs}
 use Rattle.sem_report.proofs.audits.audit_difference.Goals as goal
 

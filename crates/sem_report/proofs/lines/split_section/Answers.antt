@@ -18,58 +18,19 @@ loop-line-preserved c =
 pub overflow_add-number : goal.overflow_add-number
 overflow_add-number c = omega (arith, c.loop-line.invariant.few, c.loop-line.invariant.within, c.requires)
 
-pub returns-then-is_end_line-clause-section : goal.returns-then-is_end_line-clause-section
-returns-then-is_end_line-clause-section c =
+pub returns-then-is_end_line : goal.returns-then-is_end_line
+returns-then-is_end_line c =
     let one : OneLine c.loop-line.rest.now c.in-Some.line.whole.now c.in-Some.behind.now = record {
       text = c.in-Some.ensures.text;
       some = c.in-Some.ensures.some;
       lines = c.in-Some.ensures.lines;
       lead = c.in-Some.ensures.lead;
     } in
-    (section_ends c.args.text.now c.loop-line.rest.now c.in-Some.line.whole.now c.in-Some.behind.now _ _ _ c.loop-line.invariant one
-    (sym c.if-is_end_line.ensures) c.split_at.ensures.front).section_lines
+    let parts = section_ends c.args.text.now c.loop-line.rest.now c.in-Some.line.whole.now c.in-Some.behind.now _ _ _ c.loop-line.invariant one
+    (sym c.if-is_end_line.ensures) c.split_at.ensures.front in
+    record { section = parts.section_lines; behind = parts.behind_lines; number = parts.count; text = parts.parts }
 
-pub returns-then-is_end_line-clause-behind : goal.returns-then-is_end_line-clause-behind
-returns-then-is_end_line-clause-behind c =
-    let one : OneLine c.loop-line.rest.now c.in-Some.line.whole.now c.in-Some.behind.now = record {
-      text = c.in-Some.ensures.text;
-      some = c.in-Some.ensures.some;
-      lines = c.in-Some.ensures.lines;
-      lead = c.in-Some.ensures.lead;
-    } in
-    (section_ends c.args.text.now c.loop-line.rest.now c.in-Some.line.whole.now c.in-Some.behind.now _ _ _ c.loop-line.invariant one
-    (sym c.if-is_end_line.ensures) c.split_at.ensures.front).behind_lines
-
-pub returns-then-is_end_line-clause-number : goal.returns-then-is_end_line-clause-number
-returns-then-is_end_line-clause-number c =
-    let one : OneLine c.loop-line.rest.now c.in-Some.line.whole.now c.in-Some.behind.now = record {
-      text = c.in-Some.ensures.text;
-      some = c.in-Some.ensures.some;
-      lines = c.in-Some.ensures.lines;
-      lead = c.in-Some.ensures.lead;
-    } in
-    (section_ends c.args.text.now c.loop-line.rest.now c.in-Some.line.whole.now c.in-Some.behind.now _ _ _ c.loop-line.invariant one
-    (sym c.if-is_end_line.ensures) c.split_at.ensures.front).count
-
-pub returns-then-is_end_line-clause-text : goal.returns-then-is_end_line-clause-text
-returns-then-is_end_line-clause-text c =
-    let one : OneLine c.loop-line.rest.now c.in-Some.line.whole.now c.in-Some.behind.now = record {
-      text = c.in-Some.ensures.text;
-      some = c.in-Some.ensures.some;
-      lines = c.in-Some.ensures.lines;
-      lead = c.in-Some.ensures.lead;
-    } in
-    (section_ends c.args.text.now c.loop-line.rest.now c.in-Some.line.whole.now c.in-Some.behind.now _ _ _ c.loop-line.invariant one
-    (sym c.if-is_end_line.ensures) c.split_at.ensures.front).parts
-
-pub returns-clause-section : goal.returns-clause-section
-returns-clause-section c =
-    (section_open c.args.text.now c.loop-line.rest.now _ _ _ c.loop-line.invariant c.in_default.ensures.text c.split_at-2.ensures.front).section_lines
-
-pub returns-clause-behind : goal.returns-clause-behind
-returns-clause-behind c =
-    (section_open c.args.text.now c.loop-line.rest.now _ _ _ c.loop-line.invariant c.in_default.ensures.text c.split_at-2.ensures.front).behind_lines
-
-pub returns-clause-number : goal.returns-clause-number
-returns-clause-number c =
-    (section_open c.args.text.now c.loop-line.rest.now _ _ _ c.loop-line.invariant c.in_default.ensures.text c.split_at-2.ensures.front).count
+pub returns : goal.returns
+returns c =
+    let parts = section_open c.args.text.now c.loop-line.rest.now _ _ _ c.loop-line.invariant c.in_default.ensures.text c.split_at-2.ensures.front in
+    record { section = parts.section_lines; behind = parts.behind_lines; number = parts.count; text = parts.parts }

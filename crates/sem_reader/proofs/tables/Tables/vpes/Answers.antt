@@ -3,7 +3,8 @@ use Rattle.std.specs.List.{filter_map}
 use Rattle.sem_trace.specs.Refusal.{numbers}
 use Rattle.sem_trace.specs.Earlier.{vpe_in}
 use Rattle.sem_trace.specs.SetupOfText.{vpes_of}
-use Rattle.sem_reader.proofs.MoreItems.{numbers-none, more_number}
+use Rattle.sem_trace.proofs.ReadText.{numbers-none}
+use Rattle.sem_reader.proofs.MoreItems.{more_number}
 use Rattle.sem_reader.proofs.tables.Tables.vpes.Goals as goal
 
 pub loop-vpe-init : goal.loop-vpe-init

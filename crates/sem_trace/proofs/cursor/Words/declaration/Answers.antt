@@ -44,33 +44,38 @@ plain-requires c =
 pub overflow_cast-numbers : goal.overflow_cast-numbers
 overflow_cast-numbers c =
     let five : length c.in_ok-numbers.numbers ≡ 5 = search rules in
-    let numbers = root_numbers c.args.version c.args.kernels c.in_ok-form.form.now c.in_ok-numbers.numbers c.in_ok-form.ensures.row c.in-Root.is five c.in_ok-numbers.ensures.within in
+    let numbers = root_numbers c.args.version c.args.kernels c.in_ok-form.form.now c.in_ok-numbers.numbers
+    c.in_ok-form.ensures.row c.in-Root.is five c.in_ok-numbers.ensures.within in
     let few = few_vpes c.args.version in
     omega (arith, numbers.0, few)
 
 pub overflow_cast-numbers-in-Root : goal.overflow_cast-numbers-in-Root
 overflow_cast-numbers-in-Root c =
     let five : length c.in_ok-numbers.numbers ≡ 5 = search rules in
-    let numbers = root_numbers c.args.version c.args.kernels c.in_ok-form.form.now c.in_ok-numbers.numbers c.in_ok-form.ensures.row c.in-Root.is five c.in_ok-numbers.ensures.within in
+    let numbers = root_numbers c.args.version c.args.kernels c.in_ok-form.form.now c.in_ok-numbers.numbers
+    c.in_ok-form.ensures.row c.in-Root.is five c.in_ok-numbers.ensures.within in
     omega (arith, numbers.1)
 
 pub root-requires : goal.root-requires
 root-requires c =
     let five : length c.in_ok-numbers.numbers ≡ 5 = search rules in
-    let numbers = root_numbers c.args.version c.args.kernels c.in_ok-form.form.now c.in_ok-numbers.numbers c.in_ok-form.ensures.row c.in-Root.is five c.in_ok-numbers.ensures.within in
+    let numbers = root_numbers c.args.version c.args.kernels c.in_ok-form.form.now c.in_ok-numbers.numbers
+    c.in_ok-form.ensures.row c.in-Root.is five c.in_ok-numbers.ensures.within in
     node_small c.args.version _ numbers.0
 
 pub overflow_cast-numbers-in-Call : goal.overflow_cast-numbers-in-Call
 overflow_cast-numbers-in-Call c =
     let five : length c.in_ok-numbers.numbers ≡ 5 = search rules in
-    let numbers = call_numbers c.args.version c.args.kernels c.in_ok-form.form.now c.in_ok-numbers.numbers c.in_ok-form.ensures.row c.in-Call.is five c.in_ok-numbers.ensures.within in
+    let numbers = call_numbers c.args.version c.args.kernels c.in_ok-form.form.now c.in_ok-numbers.numbers
+    c.in_ok-form.ensures.row c.in-Call.is five c.in_ok-numbers.ensures.within in
     let few = few_vpes c.args.version in
     omega (arith, numbers, few)
 
 pub last_call-requires : goal.last_call-requires
 last_call-requires c =
     let five : length c.in_ok-numbers.numbers ≡ 5 = search rules in
-    let numbers = call_numbers c.args.version c.args.kernels c.in_ok-form.form.now c.in_ok-numbers.numbers c.in_ok-form.ensures.row c.in-Call.is five c.in_ok-numbers.ensures.within in
+    let numbers = call_numbers c.args.version c.args.kernels c.in_ok-form.form.now c.in_ok-numbers.numbers
+    c.in_ok-form.ensures.row c.in-Call.is five c.in_ok-numbers.ensures.within in
     node_small c.args.version _ numbers
 
 pub returns-in-Plain : goal.returns-in-Plain
@@ -82,7 +87,8 @@ returns-in-Plain c =
 pub returns-in-Root : goal.returns-in-Root
 returns-in-Root c =
     let five : length c.in_ok-numbers.numbers ≡ 5 = search rules in
-    let numbers = root_numbers c.args.version c.args.kernels c.in_ok-form.form.now c.in_ok-numbers.numbers c.in_ok-form.ensures.row c.in-Root.is five c.in_ok-numbers.ensures.within in
+    let numbers = root_numbers c.args.version c.args.kernels c.in_ok-form.form.now c.in_ok-numbers.numbers
+    c.in_ok-form.ensures.row c.in-Root.is five c.in_ok-numbers.ensures.within in
     root_read c.args.version c.args.kernels c.in_ok-form.form.now _ _ _ _ _ c.in_ok-numbers.numbers _ c.in_ok-form.ensures.row c.in-Root.is
     c.in_ok-form.ensures.name c.in_ok-name.ensures.ok c.in_ok-numbers.ensures.reads.filled c.in_ok-numbers.ensures.behind
     c.in_ok-numbers.ensures.values c.root.ensures.fault c.root.ensures.value (c.root.ensures.ranges c.args.version c.args.kernels numbers.0)
@@ -90,7 +96,8 @@ returns-in-Root c =
 pub returns-in-Call : goal.returns-in-Call
 returns-in-Call c =
     let five : length c.in_ok-numbers.numbers ≡ 5 = search rules in
-    let numbers = call_numbers c.args.version c.args.kernels c.in_ok-form.form.now c.in_ok-numbers.numbers c.in_ok-form.ensures.row c.in-Call.is five c.in_ok-numbers.ensures.within in
+    let numbers = call_numbers c.args.version c.args.kernels c.in_ok-form.form.now c.in_ok-numbers.numbers
+    c.in_ok-form.ensures.row c.in-Call.is five c.in_ok-numbers.ensures.within in
     call_line_read c.args.version c.args.kernels c.in_ok-form.form.now _ _ _ _ _ c.in_ok-numbers.numbers _ c.in_ok-form.ensures.row c.in-Call.is
     c.in_ok-form.ensures.name c.in_ok-name.ensures.ok c.in_ok-numbers.ensures.reads.filled c.in_ok-numbers.ensures.behind
     c.in_ok-numbers.ensures.values c.last_call.ensures.fault c.last_call.ensures.value (c.last_call.ensures.ranges c.args.kernels numbers)

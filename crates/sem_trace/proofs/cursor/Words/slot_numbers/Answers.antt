@@ -26,7 +26,9 @@ loop-place-preserved c =
     let short : length c.args.slots.now ≤ 5 = c.requires in
     record {
       five = rw length-set five;
-      fault = λ places. c.loop-place.invariant.fault places ∙ more_places (slot_place c.args.version c.args.kernels) c.args.slots.now i _ places _ _ (omega arith) c.in_ok-values.ensures.reads.filled;
+      fault = λ places. c.loop-place.invariant.fault places
+          ∙ more_places (slot_place c.args.version c.args.kernels) c.args.slots.now i _ places _ _ (omega arith)
+          c.in_ok-values.ensures.reads.filled;
       values = more_all c.loop-place.values i c.in_ok-values.field-0 (λ k n. n ≡ number_at all k) (omega arith) c.loop-place.invariant.values
           (c.in_ok-values.ensures.value ∙ ap number_value here);
       within = more_stand (slot_place c.args.version c.args.kernels) c.args.slots.now Selector c.loop-place.values i c.in_ok-values.field-0 (omega arith)
