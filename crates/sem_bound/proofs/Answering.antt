@@ -35,7 +35,7 @@ use Rattle.sem_machine.specs.Upcalls.{obtain_consent, parent_tests, delegate_her
 use Rattle.sem_machine.specs.Upcalls.{delegate_consent, consented, ask_decided}
 use Rattle.sem_machine.specs.Handles.{is_stray, obtain_ready, acknowledged, handle_row, handled}
 use Rattle.sem_machine.specs.Resumes.{can_resume, delegate_granted, delegate_resumed, resumed}
-use Rattle.sem_safety.specs.Seen.{AreDistinct}
+use Rattle.sem_safety.specs.Observations.{AreDistinct}
 use Rattle.sem_machine.proofs.Folds.{option-keeps}
 use Rattle.sem_machine.proofs.FirstCodes.{unless-keeps, unless-passed}
 use Rattle.sem_key.proofs.KeyTests.{key_eq-true}

@@ -25,7 +25,7 @@ use Rattle.sem_msg.specs.Codes.{code_number}
 use Rattle.sem_machine.specs.Sides.{Side, row, cap, parked, ready, unparked, buried, send}
 use Rattle.sem_machine.specs.Asks.{asker, is_unawaited, promise_freed, call_refused, refusal_sent, ask_refused}
 use Rattle.sem_machine.specs.Revokes.{begin}
-use Rattle.sem_machine.specs.Ends.{ask_ended, call_ended, revoked_if_left, keys_of, ended}
+use Rattle.sem_machine.specs.Ends.{ask_ended, call_ended, revoked_if_left, keys_of_vpe, ended}
 use Rattle.sem_safety.proofs.Layers.{facts}
 use Rattle.sem_machine.proofs.Folds.{in_turn-keeps}
 use Rattle.sem_safety.proofs.Onwards.{AnyPlace}
@@ -190,4 +190,4 @@ module _ (T : Setup) (near : KeyName → Bool) (i : ℕ) where
       call_ended-in F AnyVpe (IsCalm T near i) L T (parked answered v) v (unparked v answered) answered_calm in
       let light : Light m left = (omega (arith, one, two, three, four), left_calm) in
       (in_turn-keeps (Light m) (revoked_if_left T i)
-      (λ k t here. revoked-light m k (cap t k) t refl here) (keys_of left v) left light).0
+      (λ k t here. revoked-light m k (cap t k) t refl here) (keys_of_vpe left v) left light).0

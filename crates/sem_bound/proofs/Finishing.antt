@@ -27,7 +27,7 @@ use Rattle.sem_machine.specs.Revokes.{root_spared, selectors_freed, swept, woken
 use Rattle.sem_machine.specs.Revokes.{closed_here, closed, finish, settled}
 use Rattle.sem_key.proofs.KeyTests.{key_eq-true}
 use Rattle.sem_key.proofs.Members.{found}
-use Rattle.sem_safety.specs.Seen.{AreDistinct}
+use Rattle.sem_safety.specs.Observations.{AreDistinct}
 use Rattle.sem_safety.proofs.Layers.{facts}
 use Rattle.sem_machine.proofs.Folds.{in_turn-keeps}
 use Rattle.sem_safety.proofs.Onwards.{AnyPlace}

@@ -14,7 +14,7 @@ use Rattle.sem_msg.specs.Setup.{Setup}
 use Rattle.sem_msg.specs.Lookups.{owner_of, is_local}
 use Rattle.sem_machine.specs.Sides.{Side}
 use Rattle.sem_key.proofs.Members.{AllPairs-map, Contains-from_filter, Contains-from_map}
-use Rattle.sem_safety.specs.Seen.{AreDistinct}
+use Rattle.sem_safety.specs.Observations.{AreDistinct}
 use Rattle.sem_safety.proofs.Layers.{facts, IsKept}
 use Rattle.sem_safety.proofs.Onwards.{AnyPlace}
 

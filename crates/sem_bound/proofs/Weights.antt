@@ -42,7 +42,7 @@ use Rattle.sem_machine.specs.Revokes.{waiter_left, spared, root_spared}
 use Rattle.sem_machine.specs.Endpoints.{with_ring}
 use Rattle.sem_key.proofs.KeyTests.{key_eq-true, key_eq-from}
 use Rattle.sem_key.proofs.Members.{Contains-head, Contains-tail, Contains-filter, Contains-from_filter}
-use Rattle.sem_safety.specs.Seen.{AreDistinct}
+use Rattle.sem_safety.specs.Observations.{AreDistinct}
 use Rattle.sem_machine.proofs.Lengths.{with_number-longer, without_number-shorter, weigh-map_less}
 use Rattle.sem_safety.proofs.JobIds.{IdsRise}
 use Rattle.sem_bound.proofs.KeySums.{with_key-heavier}

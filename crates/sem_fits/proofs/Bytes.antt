@@ -29,7 +29,7 @@ use Rattle.sem_journal.specs.ReportText.{held_line, audit_lines, journal_lines, 
 use Rattle.sem_journal.proofs.LineLength.{short_line}
 use Rattle.sem_machine.specs.Schedules.{IsSchedule}
 use Rattle.sem_machine.specs.Journals.{made, cut}
-use Rattle.sem_fits.specs.HeldAfter.{held_after}
+use Rattle.sem_machine.specs.HeldKeys.{held_after}
 use Rattle.sem_fits.proofs.Entries.{entries-fit}
 use Rattle.sem_fits.proofs.Held.{few-held, held-fits}
 use Rattle.sem_fits.proofs.Audits.{few-entries, few-made, few-cut}

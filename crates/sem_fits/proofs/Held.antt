@@ -24,7 +24,7 @@ use Rattle.sem_machine.proofs.Folds.{in_turn-keeps_each}
 use Rattle.sem_sound.specs.SoundWorlds.{IsSoundWorld}
 use Rattle.sem_sound.proofs.Named.{declared-kernel}
 use Rattle.sem_sound.proofs.Scheduling.{schedule-sound}
-use Rattle.sem_fits.specs.HeldAfter.{held_after}
+use Rattle.sem_machine.specs.HeldKeys.{held_after}
 use Rattle.sem_fits.proofs.NearStarts.{declared-key}
 use Rattle.sem_fits.proofs.NearWorlds.{NearWorld, start-near, run-near}
 use Rattle.sem_fits.proofs.Pigeons.{pigeons, one_alone, sum-flat, sum-less, filter-parts}

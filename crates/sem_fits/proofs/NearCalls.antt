@@ -47,7 +47,7 @@ use Rattle.sem_msg.specs.declared.entry.Consent.{Consent}
 use Rattle.sem_machine.specs.Steps.{Step, unshown, replied, answer, granting, cutting, asking}
 use Rattle.sem_machine.specs.Asks.{target_vpe, asker, is_unawaited, promise_freed, call_refused, refusal_sent, ask_refused}
 use Rattle.sem_machine.specs.Revokes.{begin, revoke_begun, clear_begun}
-use Rattle.sem_machine.specs.Ends.{ask_ended, call_ended, revoked_if_left, keys_of, ended}
+use Rattle.sem_machine.specs.Ends.{ask_ended, call_ended, revoked_if_left, keys_of_vpe, ended}
 use Rattle.sem_machine.specs.Calls.{own_tests, destination_tests, next_key, next_place, child_made, with_held, derive_tests, narrowed, gate_tests, ask_made}
 use Rattle.sem_machine.specs.Calls.{obtain_tests, session_service, open_tests, offer_tests, delegate_tests, offer_made, bind_tests, call_row}
 use Rattle.sem_machine.proofs.Folds.{in_turn-keeps, in_turn-keeps_each, option-keeps}
@@ -202,7 +202,7 @@ module _ (version : ℕ) where
       let left : Side = call_ended T (parked answered v) v (unparked v answered) in
       let gone : NearSide version left = call_ended-in T (parked answered v) v (unparked v answered) (parked-near version answered told v)
       (unparked-near version answered told v) in
-      in_turn-keeps (NearSide version) (revoked_if_left T i) (λ k t here. revoked_if_there-in T i k (cap t k) t refl here) (keys_of left v) left gone
+      in_turn-keeps (NearSide version) (revoked_if_left T i) (λ k t here. revoked_if_there-in T i k (cap t k) t refl here) (keys_of_vpe left v) left gone
 
   -- Calls.
   module _ (T : Setup) (v : ℕ) (vpe : IsNode version v) (pe : IsNode version (pe_of T v)) (s : Side) (is : NearSide version s) where

@@ -11,7 +11,7 @@ ghost use Rattle.sem_trace.specs.Ranges.{IsKeyInText};
 ghost use Rattle.sem_machine.specs.Schedules.{Always, world_after};
 ghost use Rattle.sem_machine.specs.Living.{InFlight};
 ghost use Rattle.sem_machine.specs.Journals.{made, cut};
-ghost use Rattle.sem_fits.specs.HeldAfter.{held_after};
+ghost use Rattle.sem_machine.specs.HeldKeys.{held_after};
 
 /// A report of the setup's version can tell each message under way after a schedule, and none of
 /// these messages carries memory that ends too far.

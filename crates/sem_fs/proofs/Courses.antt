@@ -49,7 +49,7 @@ use Rattle.sem_machine.specs.Journals.{root_keys}
 use Rattle.sem_machine.specs.Machine.{next_call, local_step}
 use Rattle.sem_machine.proofs.FirstCodes.{unless-keeps}
 use Rattle.sem_machine.proofs.Folds.{option-keeps}
-use Rattle.sem_safety.specs.Seen.{Seen}
+use Rattle.sem_safety.specs.Observations.{ObservedSide}
 use Rattle.sem_safety.proofs.Updates.{seen-cap_added}
 use Rattle.sem_revoke.proofs.Waits.{parked-here}
 use Rattle.sem_fs.specs.Service.{MayComeNext}
@@ -98,7 +98,7 @@ come T k parent sel object s root =
           (get_or-put_same no_vpe t.vpes k.vpe (record (row t k.vpe) { slots = put Free (row t k.vpe).slots sel (Held k) }))
           ∙ get_or-put_same Free (row t k.vpe).slots sel (Held k);
       capability = c;
-      held = ap (λ (z : Seen). z.cap k) (seen-cap_added c s) ∙ cond-true (key_eq k k) (Some c) (cap s k) (key_eq-same k);
+      held = ap (λ (z : ObservedSide). z.cap k) (seen-cap_added c s) ∙ cond-true (key_eq k k) (Some c) (cap s k) (key_eq-same k);
       parent = parent;
       below = refl;
       root = root;

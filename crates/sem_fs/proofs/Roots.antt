@@ -14,7 +14,7 @@ use Rattle.sem_msg.specs.Lookups.{kernel_of}
 use Rattle.sem_machine.specs.Sides.{cap, parked}
 use Rattle.sem_machine.specs.Machine.{World, side, start}
 use Rattle.sem_machine.specs.Schedules.{IsSchedule, world_after}
-use Rattle.sem_machine.specs.Journals.{grants, root_keys, line_in, parent_in, cut_from}
+use Rattle.sem_machine.specs.Journals.{grants, root_keys, ancestry_in, parent_in, cut_from}
 use Rattle.sem_machine.specs.Living.{HoldsCap}
 use Rattle.sem_safety.proofs.FirstCaps.{root-held}
 use Rattle.sem_revoke.specs.Revocation.{IsDoomed}
@@ -31,12 +31,12 @@ module _ (T : Setup) (S : IsService T) (J : List Entry) (runs : IsSchedule T J) 
   abbrev W : World
   W = world_after T J
 
-  alone : (k : KeyName) → parent_in (grants J) k ≡ None → (n : ℕ) (a : KeyName) → Contains (line_in n (grants J) k) a → a ≡ k
-  unfolding line_in
+  alone : (k : KeyName) → parent_in (grants J) k ≡ None → (n : ℕ) (a : KeyName) → Contains (ancestry_in n (grants J) k) a → a ≡ k
+  unfolding ancestry_in
   alone k none zero a among = elim (Contains-cons_cases k [] a among) [ inl same ↦ sym same | inr no' ↦ absurd (Contains-nil a no') ]
-  alone k none (suc m) a among = elim (Contains-cons_cases k (option_map_or (line_in m (grants J)) (parent_in (grants J) k) []) a among) [
+  alone k none (suc m) a among = elim (Contains-cons_cases k (option_map_or (ancestry_in m (grants J)) (parent_in (grants J) k) []) a among) [
     | inl same ↦ sym same
-    | inr rest ↦ absurd (Contains-nil a (subst (λ o. Contains (option_map_or (line_in m (grants J)) o []) a) none rest))
+    | inr rest ↦ absurd (Contains-nil a (subst (λ o. Contains (option_map_or (ancestry_in m (grants J)) o []) a) none rest))
   ]
 
   undoomed : (k : KeyName) → Contains (root_keys T) k → (Contains (cut_from [] J) k → ⊥) → IsDoomed J k → ⊥

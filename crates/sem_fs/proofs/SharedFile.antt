@@ -1,6 +1,6 @@
 -- Two clients and a file: the commands stand, the events are a schedule, and behind it the file is closed.
 use Rattle.std.proofs.Common.{◌≡◌, ◌≢◌, ℕ, ◌≤◌, ◌++◌, true, List, [], ◌∷◌, refl, sym, ap, ◌∙◌, subst, inl, inr, arith, append_assoc, append-nil}
-use Rattle.std.specs.List.{All, Contains}
+use Rattle.std.specs.List.{Contains}
 use Rattle.std.proofs.lemmas.Bool.{and_parts}
 use Rattle.std.proofs.lemmas.List.Elements.{All-nil, All-cons}
 use Rattle.std.proofs.lemmas.List.Kept.{AllPairs-cons}
@@ -25,7 +25,7 @@ use Rattle.sem_files.specs.declared.files.Command.{Command}
 use Rattle.sem_files.specs.Files.{is_about, IsCommand}
 use Rattle.sem_files.specs.Compiled.{calls_from, extents, compiled, AreFiles}
 use Rattle.sem_fs.specs.Openings.{Opening}
-use Rattle.sem_fs.specs.SharedFile.{two_clients, events, happened, are_enabled, journal_of_two, closed_in_two, ClosesWhileSharing}
+use Rattle.sem_fs.specs.SharedFile.{two_clients, shared_events, happened, are_enabled, journal_of_two, closed_in_two, ClosesWhileSharing}
 
 heads : {X : Type 0} (x y : X) (xs ys : List X) → x ∷ xs ≡ y ∷ ys → x ≡ y
 heads x y xs ys same = cc same
@@ -107,16 +107,16 @@ enabled-run T W (e ∷ es) all =
     let parts = and_parts (is_enabled T W e) (are_enabled T (after T W e) es) all in
     (parts.0, refl, enabled-run T (after T W e) es parts.1)
 
-all-enabled : are_enabled (compiled two_clients) (start (compiled two_clients)) events ≡ true
-unfolding two_clients events are_enabled calls_from extents compiled put in_turn unless services_from grow closed_here finish opened ended call_row upcall_row
+all-enabled : are_enabled (compiled two_clients) (start (compiled two_clients)) shared_events ≡ true
+unfolding two_clients shared_events are_enabled calls_from extents compiled put in_turn unless services_from grow closed_here finish opened ended call_row upcall_row
     handle_row resume_row start_side start local_step is_locally_enabled is_enabled after
 all-enabled = refl
 
 pub schedule-of-two : IsSchedule (compiled two_clients) journal_of_two
-schedule-of-two = enabled-run (compiled two_clients) (start (compiled two_clients)) events all-enabled
+schedule-of-two = enabled-run (compiled two_clients) (start (compiled two_clients)) shared_events all-enabled
 
 pub closes-while-sharing : ClosesWhileSharing
-unfolding two_clients events happened calls_from extents compiled put in_turn unless services_from grow closed_here finish opened ended call_row upcall_row
+unfolding two_clients shared_events happened calls_from extents compiled put in_turn unless services_from grow closed_here finish opened ended call_row upcall_row
     handle_row resume_row start_side start local_step local_entry is_locally_enabled is_enabled after entry_of
 closes-while-sharing = record {
   closes = refl;
@@ -130,7 +130,7 @@ closes-while-sharing = record {
 }
 
 four-replies : reply_count journal_of_two 2 ≡ 4
-unfolding two_clients events happened calls_from extents compiled put in_turn unless services_from grow closed_here finish opened ended call_row upcall_row
+unfolding two_clients shared_events happened calls_from extents compiled put in_turn unless services_from grow closed_here finish opened ended call_row upcall_row
     handle_row resume_row start_side start local_step local_entry is_locally_enabled is_enabled after entry_of
 four-replies = refl
 

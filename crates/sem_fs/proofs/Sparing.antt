@@ -22,7 +22,7 @@ use Rattle.sem_machine.specs.Sound.{IsSound}
 use Rattle.sem_machine.specs.Sides.{Side, no_side, cap, job, parked, is_alive}
 use Rattle.sem_machine.specs.Machine.{World, side}
 use Rattle.sem_machine.specs.Schedules.{IsSchedule, world_after}
-use Rattle.sem_machine.specs.Journals.{grants, root_keys, line, line_in, parent_in, cut_from}
+use Rattle.sem_machine.specs.Journals.{grants, root_keys, ancestry, ancestry_in, parent_in, cut_from}
 use Rattle.sem_machine.specs.Living.{HoldsCap, IsLive, InFlight}
 use Rattle.sem_safety.specs.Growth.{IsGrown, no_grants, granted_next}
 use Rattle.sem_safety.specs.History.{history}
@@ -56,20 +56,20 @@ root-new roots _ (granted_next gs p' k' before above new) p q root among = elim 
 
 -- the line of a child of a key that is no child
 short-line : (gs : List (KeyName × KeyName)) (k p : KeyName) → parent_in gs k ≡ Some p → parent_in gs p ≡ None → (n : ℕ) (a : KeyName) →
-    Contains (line_in n gs k) a
+    Contains (ancestry_in n gs k) a
     → (a ≡ k) ⊎ (a ≡ p)
-unfolding line_in
+unfolding ancestry_in
 short-line gs k p above top zero a among = elim (Contains-cons_cases k [] a among) [ inl same ↦ inl (sym same) | inr none ↦ absurd (Contains-nil a none) ]
-short-line gs k p above top (suc n) a among = elim (Contains-cons_cases k (option_map_or (line_in n gs) (parent_in gs k) []) a among) [
+short-line gs k p above top (suc n) a among = elim (Contains-cons_cases k (option_map_or (ancestry_in n gs) (parent_in gs k) []) a among) [
   | inl same ↦ inl (sym same)
-  | inr rest ↦ inr (alone n (subst (λ o. Contains (option_map_or (line_in n gs) o []) a) above rest))
+  | inr rest ↦ inr (alone n (subst (λ o. Contains (option_map_or (ancestry_in n gs) o []) a) above rest))
 ]
   where
-    alone : (m : ℕ) → Contains (line_in m gs p) a → a ≡ p
+    alone : (m : ℕ) → Contains (ancestry_in m gs p) a → a ≡ p
     alone zero among = elim (Contains-cons_cases p [] a among) [ inl same ↦ sym same | inr none ↦ absurd (Contains-nil a none) ]
-    alone (suc m) among = elim (Contains-cons_cases p (option_map_or (line_in m gs) (parent_in gs p) []) a among) [
+    alone (suc m) among = elim (Contains-cons_cases p (option_map_or (ancestry_in m gs) (parent_in gs p) []) a among) [
       | inl same ↦ sym same
-      | inr rest ↦ absurd (Contains-nil a (subst (λ o. Contains (option_map_or (line_in m gs) o []) a) top rest))
+      | inr rest ↦ absurd (Contains-nil a (subst (λ o. Contains (option_map_or (ancestry_in m gs) o []) a) top rest))
     ]
 
 module _ (T : Setup) (S : IsService T) (J : List Entry) (runs : IsSchedule T J) where
@@ -152,7 +152,7 @@ module _ (T : Setup) (S : IsService T) (J : List Entry) (runs : IsSchedule T J) 
         server-cuts-nothing being.keys p (subst (λ v. Contains (history J).waiting (v, being.keys)) server being.waits) being.among
   ]
     where
-      parent-ancestor-of : (p k : KeyName) → Contains (grants J) (p, k) → Contains (line J k) p
+      parent-ancestor-of : (p k : KeyName) → Contains (grants J) (p, k) → Contains (ancestry J k) p
       parent-ancestor-of p k granted = above T S.setup J runs p k granted
 
   -- a root is no child

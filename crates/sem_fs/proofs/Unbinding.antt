@@ -27,7 +27,7 @@ use Rattle.sem_machine.specs.Revokes.{count_raised, count_lowered, other_marker,
 use Rattle.sem_machine.specs.Revokes.{closed_here, closed, finish, settled, opened, begin, revoke_begun, ready_freed, obtain_cancelled, request_begun}
 use Rattle.sem_machine.specs.Revokes.{revoke_requested, revoke_done}
 use Rattle.sem_machine.proofs.Folds.{in_turn-keeps}
-use Rattle.sem_safety.specs.Seen.{endpoints}
+use Rattle.sem_safety.specs.Observations.{endpoints}
 use Rattle.sem_safety.proofs.Updates.{reads-map}
 use Rattle.sem_revoke.proofs.Rowing.{settled_if_there}
 use Rattle.sem_revoke.proofs.Steady.{Thins, IsSteady, asks_for-steady, settled-steady}

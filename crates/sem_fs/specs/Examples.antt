@@ -67,8 +67,8 @@ pub record Outcome : Type 0 where
   pub held : List (KeyName × ℕ)
   pub all_succeed : Bool
 
-abbrev pub outcome : Setup → List Entry → Outcome
-outcome T J = record {
+abbrev pub file_outcome : Setup → List Entry → Outcome
+file_outcome T J = record {
   entries = length J;
   made = length (made T J);
   cut = length (cut T J);
@@ -84,7 +84,7 @@ calls_of_one =
 
 abbrev pub run_of_one : Type 0
 run_of_one =
-    outcome (compiled one_client) (first_run_of one_client 100)
+    file_outcome (compiled one_client) (first_run_of one_client 100)
     ≡ record {
       entries = 41;
       made = 6;

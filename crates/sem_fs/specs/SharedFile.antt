@@ -27,8 +27,8 @@ two_clients = record {
 }
 
 -- an order of events
-unfoldable pub events : List Event
-events =
+unfoldable pub shared_events : List Event
+shared_events =
     event 0 (Calls 2)
     ∷ event 1 (Calls 1)
     ∷ event 1 (Flush 0)
@@ -88,7 +88,7 @@ are_enabled T W [] = true
 are_enabled T W (e ∷ es) = is_enabled T W e && are_enabled T (after T W e) es
 
 abbrev pub journal_of_two : List Entry
-journal_of_two = happened (compiled two_clients) (start (compiled two_clients)) events
+journal_of_two = happened (compiled two_clients) (start (compiled two_clients)) shared_events
 
 abbrev pub closed_in_two : Type 0
 closed_in_two = (o : Opening two_clients) × IsClosedOpening journal_of_two o

@@ -17,7 +17,8 @@ use Rattle.sem_machine.specs.Schedules.{IsSchedule, world_after}
 use Rattle.sem_machine.specs.Living.{IsQuiet, IsComplete, reply_count}
 use Rattle.sem_machine.proofs.Pushing.{world_after-push}
 use Rattle.sem_revoke.proofs.Completing.{quiet-complete}
-use Rattle.sem_histories.specs.Outcomes.{HasSameParts, HasSameState, and_then, codes_to, held_in, outcome}
+use Rattle.sem_machine.specs.HeldKeys.{keys_held}
+use Rattle.sem_histories.specs.Outcomes.{HasSameParts, HasSameState, and_then, codes_to, outcome}
 use Rattle.sem_histories.proofs.Codes.{codes-append, codes-parts}
 use Rattle.sem_histories.proofs.SameParts.{every-part, same-worlds}
 
@@ -66,7 +67,7 @@ module _ (T : Setup) (J K : List Entry) where
   state-outcome same =
       let codes = map-alike (λ (d : VpeDecl). codes_to J d.vpe) (λ d. codes_to K d.vpe) T.vpes same.codes in
       let worlds = same.world in
-      λ k. record { codes = codes k; held = held_in (worlds k).sides }
+      λ k. record { codes = codes k; held = keys_held (worlds k).sides }
 
   pub state-complete : IsSetup T → IsComplete T J → IsSchedule T K → HasSameState T J K → IsComplete T K
   state-complete valid complete runs' same = quiet-complete T valid K runs' (subst (IsQuiet T) same.world complete.quiet)

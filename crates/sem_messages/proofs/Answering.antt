@@ -38,7 +38,7 @@ use Rattle.sem_machine.proofs.FirstCodes.{unless-keeps, unless-passed}
 use Rattle.sem_messages.specs.Messages.{is_across}
 use Rattle.sem_messages.proofs.Tallies.{Tally, of_ask, of_side, side-drawn, side-slot, side-send}
 use Rattle.sem_messages.proofs.Tallies.{side-pending}
-use Rattle.sem_safety.specs.Seen.{AreDistinct}
+use Rattle.sem_safety.specs.Observations.{AreDistinct}
 use Rattle.sem_messages.proofs.Links.{side-linked_near, side-linked, side-bare}
 use Rattle.sem_messages.proofs.Falling.{AreLed, of_grant, IsFalling, Revokings}
 use Rattle.sem_messages.proofs.Rows.{IsOfKernel, cap-among, own-among, installed-same, ask-near}

@@ -17,11 +17,11 @@ use Rattle.sem_messages.proofs.Links.{IsBare}
 use Rattle.sem_messages.proofs.Falling.{AreLed, is_done, IsFalling}
 use Rattle.sem_messages.proofs.Steadying.{IsSettled, settled-revokings}
 use Rattle.sem_messages.proofs.Worlds.{of_world}
-use Rattle.sem_messages.proofs.Keeping.{of_entry, IsFlushed, schedule-kept}
+use Rattle.sem_messages.proofs.Keeping.{of_entry, of_flush, schedule-kept}
 use Rattle.sem_messages.proofs.Known.{side-known}
 
--- As IsFalling, with equations. A grant to another kernel counts on the left, and what is flushed on both sides.
-pub record IsBalanced (P N : Tally) (g : ℕ) (L R : Message → ℕ) : Type 0 where
+-- As IsFalling, with equations. A grant to another kernel counts on the left.
+pub record IsBalanced (P N : Tally) (g : ℕ) : Type 0 where
   pub obtain : (place : PlaceName) (target : Target) → P.out (ObtainReq place target) ≡ N.out (ObtainReq place target)
   pub delegate : (parent : KeyName) (object : Object) (vpe sel : ℕ) →
       P.out (DelegateReq parent object vpe sel) ≡ N.out (DelegateReq parent object vpe sel)
@@ -49,9 +49,8 @@ pub record IsBalanced (P N : Tally) (g : ℕ) (L R : Message → ℕ) : Type 0 w
   pub orphan : (parent key : KeyName) → P.out (Orphan parent key) ≡ N.out (Orphan parent key)
   pub done : (m : Message) → is_done m ≡ true → N.on m ≡ P.on m
   pub settled : IsSettled P N
-  pub flush : (m : Message) → (P.on m + N.out m) + L m ≡ (N.on m + P.out m) + R m
 
-module _ (P N : Tally) (g : ℕ) (L R : Message → ℕ) (B : IsBalanced P N g L R) where
+module _ (P N : Tally) (g : ℕ) (B : IsBalanced P N g) where
   falls : IsFalling P N (g + 0) 0
   falls = record {
     obtain = λ place target. let e = B.obtain place target in omega (arith, e);
@@ -95,12 +94,6 @@ module _ (P N : Tally) (g : ℕ) (L R : Message → ℕ) (B : IsBalanced P N g L
     dones = λ job. sym (S.dones job);
   }
 
-  flush-falls : IsFlushed P N L R
-  flush-falls m = let e = B.flush m in omega (arith, e)
-
-  flush-rises : IsFlushed N P R L
-  flush-rises m = let e = B.flush m in omega (arith, e)
-
   led : (T : Setup) (P N : Tally) → IsBare P × IsBare N → AreLed T P N 0
   led T P N bare = record {
     bare = bare.1;
@@ -110,13 +103,13 @@ module _ (P N : Tally) (g : ℕ) (L R : Message → ℕ) (B : IsBalanced P N g L
 
   -- after every schedule both sides of the sum are the same
   pub balanced : (T : Setup) → IsSetup T → (J : List Entry) → IsSchedule T J →
-      sum_by (of_entry T L g) J + of_world T P (world_after T J)
-      ≡ sum_by (of_entry T R 0) J + of_world T N (world_after T J)
+      sum_by (of_entry T (of_flush P N) g) J + of_world T P (world_after T J)
+      ≡ sum_by (of_entry T (of_flush N P) 0) J + of_world T N (world_after T J)
   balanced T valid J runs =
-      let less = schedule-kept T P N g 0 0 falls (led T P N B.settled.links) L R flush-falls
+      let less = schedule-kept T P N g 0 0 falls (led T P N B.settled.links)
       (settled-revokings T P N B.settled) J
       (λ before runs' i within. side-known T valid before runs' i within) runs in
-      let more = schedule-kept T N P 0 0 g rises (led T N P (B.settled.links.1, B.settled.links.0)) R L
-      flush-rises (settled-revokings T N P turned) J
+      let more = schedule-kept T N P 0 0 g rises (led T N P (B.settled.links.1, B.settled.links.0))
+      (settled-revokings T N P turned) J
       (λ before runs' i within. side-known T valid before runs' i within) runs in
       omega (arith, less, more)

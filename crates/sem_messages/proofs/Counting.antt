@@ -1,9 +1,8 @@
 -- What the entries of a journal count in all: the messages that were sent, and the grants from one kernel to another.
-use Rattle.std.proofs.Common.{◌≡◌, ℕ, ◌+◌, Bool, List, [], ◌∷◌, Option, Some, None, refl, ap}
+use Rattle.std.proofs.Common.{◌≡◌, ℕ, ◌+◌, ◌*◌, Bool, true, false, List, [], ◌∷◌, Option, Some, None, refl, ap}
 use Rattle.std.proofs.Common.{arith}
-use Rattle.std.specs.Prelude.{if◌then◌else◌}
+use Rattle.std.specs.Prelude.{if◌then◌else◌, count_by}
 use Rattle.std.specs.List.{sum_by}
-use Rattle.std.proofs.lemmas.Bool.{cond_both}
 use Rattle.std.proofs.lemmas.List.Sums.{sum_by-cons, sum_by-append}
 use Rattle.sem_key.specs.KeyName.{KeyName}
 use Rattle.sem_msg.specs.declared.entry.Entry.{Entry}
@@ -12,13 +11,12 @@ use Rattle.sem_msg.specs.Setup.{Setup, IsSetup}
 use Rattle.sem_machine.specs.Journals.{grants}
 use Rattle.sem_machine.specs.Schedules.{IsSchedule, world_after}
 use Rattle.sem_machine.specs.Living.{IsIdle}
-use Rattle.sem_machine.proofs.Weighing.{weigh-none}
 use Rattle.sem_safety.specs.Counts.{count_if}
 use Rattle.sem_messages.specs.Messages.{sent_by, all_sent}
-use Rattle.sem_messages.specs.Messages.{is_across}
+use Rattle.sem_messages.specs.Messages.{is_across, grants_across}
 use Rattle.sem_messages.proofs.Tallies.{Tally}
 use Rattle.sem_messages.proofs.Falling.{of_grant}
-use Rattle.sem_messages.proofs.Keeping.{of_entry}
+use Rattle.sem_messages.proofs.Keeping.{of_entry, of_flush}
 use Rattle.sem_messages.proofs.Balancing.{IsBalanced, balanced}
 use Rattle.sem_messages.proofs.Idle.{idle-none}
 use Rattle.std.specs.List.{cons_option}
@@ -32,15 +30,6 @@ either a b m = count_if a m + count_if b m
 
 abbrev pub nothing : Message → ℕ
 nothing m = 0
-
-pub sum-both : {X : Type 0} (f g : X → ℕ) (xs : List X) → sum_by (λ x. f x + g x) xs ≡ sum_by f xs + sum_by g xs
-sum-both f g [] = refl
-sum-both f g (x ∷ xs) =
-    let rest = sum-both f g xs in
-    let all = sum_by-cons (λ y. f y + g y) x xs in
-    let one = sum_by-cons f x xs in
-    let two = sum_by-cons g x xs in
-    omega (arith, rest, all, one, two)
 
 pub sum-zero : {X : Type 0} (xs : List X) → sum_by (λ (x : X). 0) xs ≡ 0
 sum-zero [] = refl
@@ -68,28 +57,30 @@ entries-count T L g (e ∷ es) =
     let parts = sum_by-append L (sent_by e) (all_sent es) in
     omega (arith, rest, all, more, list, parts)
 
--- where a grant counts nothing
-pub across-none : (T : Setup) (gs : List (KeyName × KeyName)) → sum_by (across T 0) gs ≡ 0
-across-none T gs =
-    weigh-none (across T 0) gs (λ p among. cond_both (is_across T p) 0 0 (λ n. n ≡ 0) (λ _. refl) (λ _. refl))
+each-across : (b : Bool) (g : ℕ) → (if b then g else 0) ≡ g * (if b then 1 else 0)
+each-across true g = omega arith
+each-across false g = omega arith
+
+-- what all grants count
+pub across-count : (T : Setup) (g : ℕ) (gs : List (KeyName × KeyName)) →
+    sum_by (across T g) gs ≡ g * count_by (is_across T) gs
+across-count T g [] = omega arith
+across-count T g (p ∷ gs) =
+    let rest = across-count T g gs in
+    let one = each-across (is_across T p) g in
+    simp sum_by-cons (omega (arith, rest, one))
 
 -- What a sum that is kept says of an idle world.
 module _ (T : Setup) (valid : IsSetup T) (J : List Entry) (runs : IsSchedule T J)
     (idle : IsIdle (world_after T J)) where
-  pub settled-count : (P N : Tally) (g : ℕ) (L R : Message → ℕ) → IsBalanced P N g L R →
-      sum_by L (all_sent J) + sum_by (across T g) (grants J) ≡ sum_by R (all_sent J)
-  settled-count P N g L R B =
-      let same = balanced P N g L R B T valid J runs in
+  pub settled-count : (P N : Tally) (g : ℕ) → IsBalanced P N g →
+      sum_by (of_flush P N) (all_sent J) + g * grants_across T J ≡ sum_by (of_flush N P) (all_sent J)
+  settled-count P N g B =
+      let same = balanced P N g B T valid J runs in
       let p = idle-none T P B.settled.links.0 valid J runs idle in
       let n = idle-none T N B.settled.links.1 valid J runs idle in
-      let l = entries-count T L g J in
-      let r = entries-count T R 0 J in
-      let none = across-none T (grants J) in
-      omega (arith, same, p, n, l, r, none)
-
-  -- where no grant counts
-  pub settled-sent : (P N : Tally) (L R : Message → ℕ) → IsBalanced P N 0 L R → sum_by L (all_sent J) ≡ sum_by R (all_sent J)
-  settled-sent P N L R B =
-      let count = settled-count P N 0 L R B in
-      let none = across-none T (grants J) in
-      omega (arith, count, none)
+      let l = entries-count T (of_flush P N) g J in
+      let r = entries-count T (of_flush N P) 0 J in
+      let some = across-count T g (grants J) in
+      let none = across-count T 0 (grants J) in
+      omega (arith, same, p, n, l, r, some, none)

@@ -33,7 +33,7 @@ use Rattle.sem_safety.proofs.JobIds.{HasIds}
 use Rattle.sem_revoke.proofs.Addressed.{is_misaddressed}
 use Rattle.sem_messages.proofs.Tallies.{Tally, of_side, side-slot, side-asked, side-send}
 use Rattle.sem_messages.proofs.Tallies.{side-acked}
-use Rattle.sem_safety.specs.Seen.{AreDistinct}
+use Rattle.sem_safety.specs.Observations.{AreDistinct}
 use Rattle.sem_messages.proofs.Links.{side-linked, side-unlinked, side-bare}
 use Rattle.sem_messages.proofs.Falling.{AreLed, is_done, IsFalling, Falls, Revokings}
 use Rattle.sem_messages.proofs.Rows.{Fell, installed-same, refused-same}

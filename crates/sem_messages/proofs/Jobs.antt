@@ -15,7 +15,7 @@ use Rattle.sem_msg.specs.Rows.{JobRow}
 use Rattle.sem_msg.specs.JobRows.{job_of, if_done, next_done}
 use Rattle.sem_machine.specs.Sides.{Side, job, job_opened, job_changed}
 use Rattle.sem_key.proofs.Members.{found}
-use Rattle.sem_safety.specs.Seen.{Seen}
+use Rattle.sem_safety.specs.Observations.{ObservedSide}
 use Rattle.sem_safety.proofs.JobIds.{IdsRise}
 use Rattle.sem_safety.proofs.Updates.{seen-job_changed, seen-job_opened}
 use Rattle.sem_revoke.proofs.Scaling.{jobs-changed}
@@ -73,7 +73,7 @@ pub there-changed : (j m : ℕ) (f : JobRow → JobRow) (s : Side) → ((x : Job
     IsThere j (job_changed m f s)
 there-changed j m f s keeps is =
     let now : job (job_changed m f s) j ≡ (if j == m then option_map f (job s j) else job s j) =
-    ap (λ (q : Seen). q.job j) (seen-job_changed m f s keeps) in
+    ap (λ (q : ObservedSide). q.job j) (seen-job_changed m f s keeps) in
     elim (cases_Bool (j == m)) [
       | inl same ↦ (
         f is.0,
@@ -91,7 +91,7 @@ there-opened root up ws keep s = from (job s s.next_job) now
 
     now : job (job_opened root up ws keep s) s.next_job
         ≡ option_or (job s s.next_job) (if s.next_job == s.next_job then Some new else None)
-    now = ap (λ (q : Seen). q.job s.next_job) (seen-job_opened root up ws keep s)
+    now = ap (λ (q : ObservedSide). q.job s.next_job) (seen-job_opened root up ws keep s)
 
     from : (o : Option JobRow) → job (job_opened root up ws keep s) s.next_job
         ≡ option_or o (if s.next_job == s.next_job then Some new else None) →

@@ -39,7 +39,7 @@ use Rattle.sem_revoke.proofs.Readying.{enabled-low}
 use Rattle.sem_revoke.proofs.Revoking.{enabled-parts}
 use Rattle.sem_messages.specs.Messages.{sent_by}
 use Rattle.sem_messages.proofs.Tallies.{Tally, of_ask, of_side, of_inbox, side-counted, side-taken, side-inbox}
-use Rattle.sem_safety.specs.Seen.{AreDistinct}
+use Rattle.sem_safety.specs.Observations.{AreDistinct}
 use Rattle.sem_messages.proofs.Falling.{AreLed, of_grant, IsFalling, Revokings}
 use Rattle.sem_messages.proofs.Rows.{IsOfKernel, Fell, ended-falls, call_row-falls}
 use Rattle.sem_messages.proofs.Answering.{IsAddressed, decided-paid}
@@ -69,12 +69,11 @@ own-pe T v i here within = from (decl T v) here
 abbrev pub of_entry : Setup → (Message → ℕ) → ℕ → Entry → ℕ
 of_entry T L g e = sum_by L (sent_by e) + of_grant T g e.grant
 
--- what is flushed counts so that the sum is kept
-abbrev pub IsFlushed : Tally → Tally → (Message → ℕ) → (Message → ℕ) → Type 0
-IsFlushed P N L R = (m : Message) → (P.on m + N.out m) + L m ≤ (N.on m + P.out m) + R m
+-- what a message counts that is flushed: it leaves an outbox of the one tally, and comes into a link of the other
+abbrev pub of_flush : Tally → Tally → Message → ℕ
+of_flush P N m = P.out m + N.on m
 
 module _ (T : Setup) (P N : Tally) (gl lead gr : ℕ) (F : IsFalling P N (gl + lead) gr) (A : AreLed T P N lead)
-    (L M : Message → ℕ) (flush : IsFlushed P N L M)
     (revokings : (i : ℕ) → Revokings T P N i) where
   abbrev FellAt : ℕ → Side → Step → Type 0
   FellAt i s x = Fell T P N gl lead gr F A i (revokings i) s x
@@ -143,18 +142,18 @@ module _ (T : Setup) (P N : Tally) (gl lead gr : ℕ) (F : IsFalling P N (gl + l
 
   -- what an event makes of the world, and what its entry counts
   abbrev pub Keeps : World → Event → Type 0
-  Keeps W e = (of_world T P (after T W e) + of_world T N W) + of_entry T L gl (entry_of T W e)
-      ≤ (of_world T P W + of_world T N (after T W e)) + of_entry T M gr (entry_of T W e)
+  Keeps W e = (of_world T P (after T W e) + of_world T N W) + of_entry T (of_flush P N) gl (entry_of T W e)
+      ≤ (of_world T P W + of_world T N (after T W e)) + of_entry T (of_flush N P) gr (entry_of T W e)
 
   carried : (K : Message → ℕ) (j : ℕ) (o : Option Message) →
       sum_by K (message_in (option_map_or (λ (m : Message). Carried j m) o Nothing)) ≡ of_option K o
   carried K j None = refl
   carried K j (Some m) = let one = sum_by-cons K m [] in omega (arith, one)
 
-  flush-all : (o : Option Message) → (of_option P.on o + of_option N.out o) + of_option L o
-      ≤ (of_option N.on o + of_option P.out o) + of_option M o
+  flush-all : (o : Option Message) → (of_option P.on o + of_option N.out o) + of_option (of_flush P N) o
+      ≤ (of_option N.on o + of_option P.out o) + of_option (of_flush N P) o
   flush-all None = omega arith
-  flush-all (Some m) = flush m
+  flush-all (Some m) = omega arith
 
   -- neither a fetch nor a flush grants anything
   fetch-grants : (g : ℕ) (W : World) (i j : ℕ) → of_grant T g (entry_of T W (event i (Fetch j))).grant ≡ 0
@@ -221,8 +220,8 @@ module _ (T : Setup) (P N : Tally) (gl lead gr : ℕ) (F : IsFalling P N (gl + l
       let within = enabled-low T W (event i (Flush j)) enabled in
       let p = flushed T P W i j within in
       let n = flushed T N W i j within in
-      let l = carried L j o in
-      let r = carried M j o in
+      let l = carried (of_flush P N) j o in
+      let r = carried (of_flush N P) j o in
       let less = flush-all o in
       let gl' = flush-grants gl W i j in
       let gr' = flush-grants gr W i j in
@@ -231,31 +230,31 @@ module _ (T : Setup) (P N : Tally) (gl lead gr : ℕ) (F : IsFalling P N (gl + l
   -- A schedule, of which is known at each entry what the sides are like.
   module _ (J : List Entry) (known : (before : List Entry) → IsSchedule T before → (i : ℕ) → i < T.kernels →
       IsKnown T i (side (world_after T before) i)) where
-    pub schedule-kept : IsSchedule T J → sum_by (of_entry T L gl) J + of_world T P (world_after T J)
-        ≤ sum_by (of_entry T M gr) J + of_world T N (world_after T J)
+    pub schedule-kept : IsSchedule T J → sum_by (of_entry T (of_flush P N) gl) J + of_world T P (world_after T J)
+        ≤ sum_by (of_entry T (of_flush N P) gr) J + of_world T N (world_after T J)
     schedule-kept runs = from [] J refl (let p = start-none T P in let n = start-none T N in omega (arith, p, n))
       where
         from : (before later : List Entry) → J ≡ before ++ later →
-            sum_by (of_entry T L gl) before + of_world T P (world_after T before)
-            ≤ sum_by (of_entry T M gr) before + of_world T N (world_after T before) →
-            sum_by (of_entry T L gl) J + of_world T P (world_after T J)
-            ≤ sum_by (of_entry T M gr) J + of_world T N (world_after T J)
+            sum_by (of_entry T (of_flush P N) gl) before + of_world T P (world_after T before)
+            ≤ sum_by (of_entry T (of_flush N P) gr) before + of_world T N (world_after T before) →
+            sum_by (of_entry T (of_flush P N) gl) J + of_world T P (world_after T J)
+            ≤ sum_by (of_entry T (of_flush N P) gr) J + of_world T N (world_after T J)
         from before [] parts is =
-            subst (λ K. sum_by (of_entry T L gl) K + of_world T P (world_after T K)
-            ≤ sum_by (of_entry T M gr) K + of_world T N (world_after T K)) (sym (parts ∙ append-nil before)) is
+            subst (λ K. sum_by (of_entry T (of_flush P N) gl) K + of_world T P (world_after T K)
+            ≤ sum_by (of_entry T (of_flush N P) gr) K + of_world T N (world_after T K)) (sym (parts ∙ append-nil before)) is
         from before (e ∷ es) parts is =
             let W : World = world_after T before in
             let at = entry-enabled T before (start T) e es (subst (IsSchedule T) parts runs) in
             let within = enabled-low T W e.event at.1 in
             let next : Keeps W e.event =
             event-kept W e.event.kernel e.event.act (known before at.0 e.event.kernel within) at.1 in
-            let l = ap (of_entry T L gl) at.2 in
-            let r = ap (of_entry T M gr) at.2 in
+            let l = ap (of_entry T (of_flush P N) gl) at.2 in
+            let r = ap (of_entry T (of_flush N P) gr) at.2 in
             let p : of_world T P (after T W e.event) ≡ of_world T P (world_after T (before ++ e ∷ [])) =
             ap (of_world T P) (sym (run-append T before (e ∷ []) (start T))) in
             let n : of_world T N (after T W e.event) ≡ of_world T N (world_after T (before ++ e ∷ [])) =
             ap (of_world T N) (sym (run-append T before (e ∷ []) (start T))) in
-            let push = sum_by_push (of_entry T L gl) before e in
-            let push' = sum_by_push (of_entry T M gr) before e in
+            let push = sum_by_push (of_entry T (of_flush P N) gl) before e in
+            let push' = sum_by_push (of_entry T (of_flush N P) gr) before e in
             from (before ++ e ∷ []) es (parts ∙ sym (append_assoc before (e ∷ []) es))
             (omega (arith, is, next, l, r, p, n, push, push'))

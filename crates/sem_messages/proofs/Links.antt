@@ -18,7 +18,7 @@ use Rattle.sem_msg.specs.Setup.{Setup}
 use Rattle.sem_machine.specs.Sides.{Side, cap_added, linked, unlinked}
 use Rattle.sem_machine.proofs.Lengths.{apart-lighter, below-not_above}
 use Rattle.sem_machine.proofs.Weighing.{change-once, change-less, weigh-parts, weigh-filter, weigh-none}
-use Rattle.sem_safety.specs.Seen.{AreDistinct}
+use Rattle.sem_safety.specs.Observations.{AreDistinct}
 use Rattle.sem_messages.proofs.Tallies.{Tally, of_cap, of_side}
 
 -- no link counts

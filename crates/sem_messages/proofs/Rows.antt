@@ -36,7 +36,7 @@ use Rattle.sem_machine.specs.Asks.{target_vpe, asker, is_unawaited, promise_free
 use Rattle.sem_machine.specs.Asks.{ask_refused, waits_for}
 use Rattle.sem_machine.specs.Calls.{next_key, next_place, child_made, ask_made, offer_made, call_row}
 use Rattle.sem_machine.specs.Revokes.{begin, revoke_begun}
-use Rattle.sem_machine.specs.Ends.{ask_ended, call_ended, revoked_if_left, keys_of, ended}
+use Rattle.sem_machine.specs.Ends.{ask_ended, call_ended, revoked_if_left, keys_of_vpe, ended}
 use Rattle.sem_key.proofs.KeyTests.{key_eq-true}
 use Rattle.sem_key.proofs.Members.{found}
 use Rattle.sem_machine.proofs.Folds.{in_turn-keeps}
@@ -223,7 +223,7 @@ module _ (T : Setup) (P N : Tally) (gl lead gr : ℕ) (F : IsFalling P N (gl + l
       (λ k t is. (
         (let more = revoked-falls k (cap t k) t is.1 in let so = is.0 in omega (arith, more, so)),
         revoked_if_there-in (facts Any AnyPlace) AnyVpe HasIds ids T i k (cap t k) t is.1 tt,
-      )) (keys_of left v) left (light, kept')).0
+      )) (keys_of_vpe left v) left (light, kept')).0
 
   -- Calls.
   module _ (s : Side) (has : HasIds s) (home : (c : Capability) → Contains s.caps c → IsOfKernel T i c.key) (v : ℕ)

@@ -44,7 +44,7 @@ use Rattle.sem_machine.specs.Upcalls.{source, source_tests, given, given_kind, g
 use Rattle.sem_machine.specs.Upcalls.{upcall_row}
 use Rattle.sem_machine.specs.Handles.{is_key_declared, is_place_declared, is_target_declared, is_object_declared, is_here, acknowledged, handled}
 use Rattle.sem_machine.specs.Resumes.{delegate_granted, delegate_resumed, resumed, resume_row}
-use Rattle.sem_machine.specs.Ends.{ask_ended, call_ended, keys_of, revoked_if_left, ended}
+use Rattle.sem_machine.specs.Ends.{ask_ended, call_ended, keys_of_vpe, revoked_if_left, ended}
 use Rattle.sem_machine.specs.Sound.{IsSound, IsNamed, IsObjectNamed, IsTargetNamed, IsSoundAsk}
 use Rattle.sem_machine.proofs.Folds.{in_turn-keeps, in_turn-keeps_each, option-keeps}
 use Rattle.sem_machine.proofs.FirstCodes.{unless-keeps}
@@ -182,7 +182,7 @@ module _ (T : Setup) (valid : IsSetup T) (i : ℕ) (few : i < T.kernels) (n : �
       ))
       (buried v s) (is, λ p k there. (sound.calls v (DelegateReady p k) there).1.2.0.1) in
       let last : Side = call_ended T (parked answered v) v (unparked v answered) in
-      in_turn-keeps Right (revoked_if_left T i) (λ k t here. rest-steady Right steady T i k t here) (keys_of last v) last
+      in_turn-keeps Right (revoked_if_left T i) (λ k t here. rest-steady Right steady T i k t here) (keys_of_vpe last v) last
       (owes (parked answered v) refl (unparked v answered) told.0 told.1)
     where
       Known : Side → Type 0

@@ -12,7 +12,7 @@ use Rattle.sem_machine.specs.Machine.{side}
 use Rattle.sem_machine.specs.Living.{HoldsCap}
 use Rattle.sem_machine.specs.Safety.{IsInUse}
 use Rattle.sem_machine.specs.Schedules.{IsSchedule, world_after}
-use Rattle.sem_machine.specs.Journals.{grants, line, line_in, parent_in}
+use Rattle.sem_machine.specs.Journals.{grants, ancestry, ancestry_in, parent_in}
 use Rattle.sem_key.proofs.Members.{Contains-nil, Contains-cons_cases}
 use Rattle.sem_safety.proofs.GrownLines.{parent-granted}
 use Rattle.sem_safety.proofs.SoundWorlds.{all-endpoints}
@@ -39,16 +39,16 @@ module _ (T : Setup) (valid : IsSetup T) (J : List Entry) (runs : IsSchedule T J
       inl (sound.capability, ap (λ a. cap (side (world_after T J) a) k) (schedule-homes T valid J runs binds.kernel k sound.capability held) ∙ held)
 
   -- an ancestor is the key itself, or held
-  pub ancestor-held : (n : ℕ) (k a : KeyName) → IsAliveNow k → Contains (line_in n (grants J) k) a → (k ≡ a) ⊎ IsHeldNow a
-  unfolding line_in
+  pub ancestor-held : (n : ℕ) (k a : KeyName) → IsAliveNow k → Contains (ancestry_in n (grants J) k) a → (k ≡ a) ⊎ IsHeldNow a
+  unfolding ancestry_in
   ancestor-held zero k a alive among = elim (Contains-cons_cases k [] a among) [ inl same ↦ inl same | inr none ↦ absurd (Contains-nil a none) ]
-  ancestor-held (suc n) k a alive among = elim (Contains-cons_cases k (option_map_or (line_in n (grants J)) (parent_in (grants J) k) []) a among) [
+  ancestor-held (suc n) k a alive among = elim (Contains-cons_cases k (option_map_or (ancestry_in n (grants J)) (parent_in (grants J) k) []) a among) [
     | inl same ↦ inl same
     | inr above ↦ inr (from (parent_in (grants J) k) refl (λ p live there. ancestor-held n p a live there) above)
   ]
     where
-      from : (o : Option KeyName) → parent_in (grants J) k ≡ o → ((p : KeyName) → IsAliveNow p → Contains (line_in n (grants J) p) a → (p ≡ a) ⊎ IsHeldNow a) →
-          Contains (option_map_or (line_in n (grants J)) o []) a → IsHeldNow a
+      from : (o : Option KeyName) → parent_in (grants J) k ≡ o → ((p : KeyName) → IsAliveNow p → Contains (ancestry_in n (grants J) p) a → (p ≡ a) ⊎ IsHeldNow a) →
+          Contains (option_map_or (ancestry_in n (grants J)) o []) a → IsHeldNow a
       from None none rest above = absurd (Contains-nil a above)
       from (Some p) some rest above =
           let leads = (holds T valid J runs).linked p k (parent-granted (grants J) k p some) alive in
@@ -58,11 +58,11 @@ module _ (T : Setup) (valid : IsSetup T) (J : List Entry) (runs : IsSchedule T J
           ]
 
   -- so all are alive
-  pub ancestor-alive : (k a : KeyName) → IsInUse (world_after T J) k → Contains (line J k) a → IsAliveNow a
+  pub ancestor-alive : (k a : KeyName) → IsInUse (world_after T J) k → Contains (ancestry J k) a → IsAliveNow a
   ancestor-alive k a used among = elim (ancestor-held (length J) k a (used-alive k used) among) [
     | inl same ↦ subst IsAliveNow same (used-alive k used)
     | inr held ↦ inl (held.0, held.1)
   ]
 
-  pub ancestors-held : (k a : KeyName) → IsInUse (world_after T J) k → Contains (line J k) a → (k ≡ a) ⊎ IsHeldNow a
+  pub ancestors-held : (k a : KeyName) → IsInUse (world_after T J) k → Contains (ancestry J k) a → (k ≡ a) ⊎ IsHeldNow a
   ancestors-held k a used among = ancestor-held (length J) k a (used-alive k used) among

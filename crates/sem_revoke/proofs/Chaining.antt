@@ -1,5 +1,6 @@
 -- A job is closed, and those that are done by that, one after the other.
-use Rattle.std.proofs.Common.{◌≡◌, ℕ, zero, suc, ◌+◌, ◌≤◌, Bool, true, false, not, ◌&&◌, List, length, Option, Some, None, refl, sym, ap, ◌∙◌, subst, inl, inr}
+use Rattle.std.proofs.Common.{◌≡◌, ℕ, zero, suc, ◌+◌, ◌≤◌, Bool, true, false, not, ◌&&◌, List, length, Option}
+use Rattle.std.proofs.Common.{Some, None, refl, sym, ap, ◌∙◌, subst, inl, inr}
 use Rattle.std.proofs.Common.{arith, eq-eqb, ◌⊎◌}
 use Rattle.std.specs.Prelude.{◌==◌, if◌then◌else◌}
 use Rattle.std.specs.List.{sum_by}
@@ -26,24 +27,24 @@ use Rattle.sem_machine.specs.Revokes.{closed_here}
 use Rattle.sem_machine.proofs.Late.{closed_here-late}
 use Rattle.sem_msg.specs.JobRows.{if_done, next_done}
 use Rattle.sem_key.proofs.KeyTests.{key_eq-same, key_eq-true, key_eq-from}
-use Rattle.sem_safety.specs.Seen.{AreDistinct, Seen, if_kept}
+use Rattle.sem_safety.specs.Observations.{AreDistinct, ObservedSide, if_kept}
 use Rattle.sem_machine.proofs.Folds.{in_turn-keeps}
 use Rattle.sem_safety.proofs.Updates.{seen-cap_changed, seen-caps_removed, seen-job_removed}
 use Rattle.sem_machine.proofs.Weighing.{weigh-none, weigh-put}
 use Rattle.sem_safety.proofs.Lives.{at_side, at_cap, at_parked, lives-parked, lives-send}
 use Rattle.sem_sound.proofs.Rising.{filtered-rises}
 use Rattle.sem_safety.proofs.JobIds.{ids}
-use Rattle.sem_revoke.specs.Views.{Hand, free_hand, token, closing_job}
+use Rattle.sem_revoke.specs.Views.{Obligations, no_obligations, token, closing_job}
 use Rattle.sem_revoke.specs.Scales.{of_side, bit, names, requesting, naming, counting, noticing, straying}
 use Rattle.sem_revoke.proofs.Keeping.{HoldsOn, holds-same, fit-on, keep, Sweeps, keep_swept, fit-swept, not-gone}
 use Rattle.sem_revoke.proofs.Scaling.{side-removed}
 use Rattle.sem_revoke.proofs.Viewing.{on_its_way, Rises, rises_distinct, Scene, one-more, one-true, owner, view, IsAlive, IsGone, IsMarked, Row, hold-here}
-use Rattle.sem_revoke.proofs.Viewing.{hold-away, job-here, mark-lost, job-away, job-id, rows-changed, row-sent, rehand}
+use Rattle.sem_revoke.proofs.Viewing.{hold-away, job-here, mark-lost, job-away, job-id, rows-changed, row-sent, obligations-changed}
 use Rattle.sem_revoke.proofs.Restoring.{cleared, oldest-root, Restores, fit-restored, keep_restored}
 use Rattle.sem_revoke.proofs.Closing.{changed-rises, asked-token, open-count, counted-open, row-lowered, back-cap, unlinked-gone, row-unlinked}
 
--- the token of a job's `up` is in the hand
-abbrev pub above : ℕ → Option Up → Hand
+-- the row owes the token of a job's `up`
+abbrev pub above : ℕ → Option Up → Obligations
 above i up = record { cares = λ a b k. ⊥; owed = λ a b. bit (names i up a b); loose = λ a b. ⊥ }
 
 -- What a job marks is removed.
@@ -52,7 +53,7 @@ module _ (n : ℕ) (s : Side) (distinct : AreDistinct s.caps) where
   swept_side = caps_removed n s
 
   cap-t : (k : KeyName) → cap swept_side k ≡ if_kept (λ c. not (is_marked_by n c)) (cap s k)
-  cap-t k = ap (λ (z : Seen). z.cap k) (seen-caps_removed n s distinct)
+  cap-t k = ap (λ (z : ObservedSide). z.cap k) (seen-caps_removed n s distinct)
 
   swept-cap : (k : KeyName) (c : Capability) → cap s k ≡ Some c → c.mark ≡ Some n → cap swept_side k ≡ None
   swept-cap k c held marked =
@@ -105,11 +106,11 @@ module _ (C : Scene) where
   abbrev i : ℕ
   i = C.kernel
 
-  pub freed-row : (h : Hand) (v sel : ℕ) (s : Side) → Row C h s → Row C h (freed v sel s)
+  pub freed-row : (h : Obligations) (v sel : ℕ) (s : Side) → Row C h s → Row C h (freed v sel s)
   freed-row h v sel s R = rows-changed C h s (put no_vpe s.vpes v (record (row s v) { slots = put Free (row s v).slots sel Free })) s.endpoints s.parks
       (λ k. omega arith) R
 
-  pub parked-row : (h : Hand) (v code : ℕ) (s : Side) → Row C h s → Row C h (parked_as v (Ready code) s)
+  pub parked-row : (h : Obligations) (v code : ℕ) (s : Side) → Row C h s → Row C h (parked_as v (Ready code) s)
   parked-row h v code s R = rows-changed C h s s.vpes s.endpoints (put None s.parks v (Some (Ready code))) (λ k. let less =
       lives-parked k on_its_way s v (Ready code) in omega (arith, less)) R
 
@@ -122,7 +123,7 @@ module _ (C : Scene) where
     pub clean : (k : KeyName) (c : Capability) → cap s k ≡ Some c → c.mark ≡ Some x.id → ⊥
 
   -- A job without a token out has asked for nothing.
-  none-asked : (x : JobRow) (s : Side) → Row C free_hand s → job s x.id ≡ Some x → x.count ≡ 0 → (k : KeyName) → (view C s).asked k i x.id ≡ 0
+  none-asked : (x : JobRow) (s : Side) → Row C no_obligations s → job s x.id ≡ Some x → x.count ≡ 0 → (k : KeyName) → (view C s).asked k i x.id ≡ 0
   none-asked x s R open_ done k =
       let few = asked-token C s k i x.id in
       let is = R.revokes.counted i x.id in
@@ -136,18 +137,19 @@ module _ (C : Scene) where
       let two = weigh-none (at_cap k on_its_way) s.caps (λ c among. refl) in
       omega (arith, one, two)
 
-  root-of : (x : JobRow) (s : Side) → Row C free_hand s → job s x.id ≡ Some x → (owner C x.root ≡ i) × IsMarked C s x.root x.id
+  root-of : (x : JobRow) (s : Side) → Row C no_obligations s → job s x.id ≡ Some x → (owner C x.root ≡ i) × IsMarked C s x.root x.id
   root-of x s R open_ = elim (R.revokes.roots i x.id x (job-here C s x.id ∙ open_)) [ inl no' ↦ absurd no' | inr is ↦ is ]
 
   -- what it marks is lost, but for a root that it keeps
-  marked-lost : (x : JobRow) (s : Side) → Row C free_hand s → job s x.id ≡ Some x → (k : KeyName) (c : Capability) → cap s k ≡ Some c → c.mark ≡ Some x.id →
+  marked-lost : (x : JobRow) (s : Side) → Row C no_obligations s → job s x.id ≡ Some x → (k : KeyName) (c : Capability) → cap s k ≡ Some c
+      → c.mark ≡ Some x.id →
       (x.root ≡ k → x.keep ≡ false) → C.lost k
   marked-lost x s R open_ k c held marked leaves =
       let at = R.homes k c held in
-      mark-lost C free_hand s R k x.id x (c, hold-here C s k at ∙ held, marked) (ap (λ a. (view C s).job a x.id) at ∙ (job-here C s x.id ∙ open_)) leaves
+      mark-lost C no_obligations s R k x.id x (c, hold-here C s k at ∙ held, marked) (ap (λ a. (view C s).job a x.id) at ∙ (job-here C s x.id ∙ open_)) leaves
 
   -- The root goes too.
-  module _ (x : JobRow) (s : Side) (R : Row C free_hand s) (open_ : job s x.id ≡ Some x) (done : x.count ≡ 0) (leaves : x.keep ≡ false) where
+  module _ (x : JobRow) (s : Side) (R : Row C no_obligations s) (open_ : job s x.id ≡ Some x) (done : x.count ≡ 0) (leaves : x.keep ≡ false) where
     abbrev n : ℕ
     n = x.id
 
@@ -206,7 +208,7 @@ module _ (C : Scene) where
         }
 
   -- The root is kept: it loses its mark and its links, in the same change.
-  module _ (x : JobRow) (s : Side) (R : Row C free_hand s) (open_ : job s x.id ≡ Some x) (done : x.count ≡ 0) (keeps : x.keep ≡ true) where
+  module _ (x : JobRow) (s : Side) (R : Row C no_obligations s) (open_ : job s x.id ≡ Some x) (done : x.count ≡ 0) (keeps : x.keep ≡ true) where
     abbrev m : ℕ
     m = x.id
 
@@ -223,7 +225,7 @@ module _ (C : Scene) where
     distinct-spared = rises_distinct spared_side.caps spared-rises
 
     cap-spared : (k : KeyName) → cap spared_side k ≡ (if key_eq k x.root then option_map cleared (cap s k) else cap s k)
-    cap-spared k = ap (λ (z : Seen). z.cap k) (seen-cap_changed x.root cleared s (λ c. refl))
+    cap-spared k = ap (λ (z : ObservedSide). z.cap k) (seen-cap_changed x.root cleared s (λ c. refl))
 
     root-spared : (c : Capability) → cap s x.root ≡ Some c → cap spared_side x.root ≡ Some (cleared c)
     root-spared c held = cap-spared x.root ∙ (cond-true (key_eq x.root x.root) (option_map cleared (cap s x.root)) (cap s x.root) (key_eq-same x.root)
@@ -250,7 +252,7 @@ module _ (C : Scene) where
         record {
           here = root.0;
           root_marked = root.1;
-          oldest = oldest-root (owner C) C.parent C.one_parent C.made C.rank C.older free_hand (view C s) R.revokes i m x (job-here C s m ∙ open_);
+          oldest = oldest-root (owner C) C.parent C.one_parent C.made C.rank C.older no_obligations (view C s) R.revokes i m x (job-here C s m ∙ open_);
           restored = λ c held. hold-here C restored_side x.root root.0
               ∙ stays-cap m spared_side distinct-spared x.root (cleared c) (root-spared c (sym (hold-here C s x.root root.0) ∙ held)) (λ no'. absurd cc);
           swept = λ k c other here held marked. hold-here C restored_side k here
@@ -374,13 +376,13 @@ module _ (C : Scene) where
     clean = K.clean;
   }
 
-  -- The job is removed; the token of its `up` comes into the hand.
+  -- The job is removed; the row owes the token of its `up`.
   module _ (x : JobRow) (s : Side) (K : Closing x s) (done : x.count ≡ 0) where
     abbrev u : Side
     u = job_removed x.id s
 
     job-u : (m : ℕ) → job u m ≡ (if m == x.id then None else job s m)
-    job-u m = ap (λ (z : Seen). z.job m) (seen-job_removed x.id s)
+    job-u m = ap (λ (z : ObservedSide). z.job m) (seen-job_removed x.id s)
 
     job-stays : (a m : ℕ) (y : JobRow) → ((a ≡ i) × (m ≡ x.id) → ⊥) → (view C s).job a m ≡ Some y → (view C u).job a m ≡ Some y
     job-stays a m y other open_ = elim (cases_eq a i) [
@@ -459,40 +461,41 @@ module _ (C : Scene) where
 
   -- The job above is told.
 
-  -- a token of a job of this kernel that is in the hand comes back
-  pub row-back : (s : Side) (j : ℕ) → Row C (token i j) s → Row C free_hand (count_lowered j s)
+  -- a token of a job of this kernel that the row owes comes back
+  pub row-back : (s : Side) (j : ℕ) → Row C (token i j) s → Row C no_obligations (count_lowered j s)
   row-back s j R =
       let is = R.revokes.counted i j in
       let one = one-true ((i == i) && (j == j)) (and_from (i == i) (j == j) (eq-eqb i i refl) (eq-eqb j j refl)) in
       let x = counted-open C s j (omega (arith, is, one)) in
       row-lowered C s j x.0 x.1 R
 
-  told-row : (up : Option Up) (s : Side) → Row C (above i up) s → Row C free_hand (up_told up s)
-  told-row None s R = rehand C (above i None) free_hand s (λ k a b alive under care. absurd care) (λ k a b care. care) (λ a m loose. loose) (λ a b. refl) R
+  told-row : (up : Option Up) (s : Side) → Row C (above i up) s → Row C no_obligations (up_told up s)
+  told-row None s R = obligations-changed C (above i None) no_obligations s (λ k a b alive under care. absurd care) (λ k a b care. care)
+      (λ a m loose. loose) (λ a b. refl) R
   told-row (Some (Local j)) s R = row-back s j R
-  told-row (Some (Remote kernel j)) s R = row-sent C (above i (Some (Remote kernel j))) free_hand s kernel (RevokeDone j) (λ k a b. refl) (λ k. refl) refl
+  told-row (Some (Remote kernel j)) s R = row-sent C (above i (Some (Remote kernel j))) no_obligations s kernel (RevokeDone j) (λ k a b. refl) (λ k. refl) refl
       (λ a b. omega arith) (λ a b k alive care. care) (λ a b k care. care) (λ a m loose. loose) (λ k more. absurd (omega (arith, more))) R
 
   -- what the job marked is swept
-  row-swept : (x : JobRow) (s : Side) → job s x.id ≡ Some x → x.count ≡ 0 → Row C free_hand s → (b : Bool) → x.keep ≡ b →
+  row-swept : (x : JobRow) (s : Side) → job s x.id ≡ Some x → x.count ≡ 0 → Row C no_obligations s → (b : Bool) → x.keep ≡ b →
       Closing x (caps_removed x.id (selectors_freed x.id (record s { caps = spared b x.root s.caps })))
   row-swept x s open_ done R true keeps =
       let freed_rows : List VpeRow = all_freed (marked_by x.id (restored s.caps x.root)) s.vpes in
-      row-restored x (record s { vpes = freed_rows }) (rows-changed C free_hand s freed_rows s.endpoints s.parks (λ k. omega arith) R) open_ done keeps
+      row-restored x (record s { vpes = freed_rows }) (rows-changed C no_obligations s freed_rows s.endpoints s.parks (λ k. omega arith) R) open_ done keeps
   row-swept x s open_ done R false leaves =
       let freed_rows : List VpeRow = all_freed (marked_by x.id s.caps) s.vpes in
-      row-removed x (record s { vpes = freed_rows }) (rows-changed C free_hand s freed_rows s.endpoints s.parks (λ k. omega arith) R) open_ done leaves
+      row-removed x (record s { vpes = freed_rows }) (rows-changed C no_obligations s freed_rows s.endpoints s.parks (λ k. omega arith) R) open_ done leaves
 
   -- A job is closed.
-  row-closed_here : (x : JobRow) (s : Side) → job s x.id ≡ Some x → x.count ≡ 0 → Row C free_hand s → Closing x (closed_here C.setup i x s)
+  row-closed_here : (x : JobRow) (s : Side) → job s x.id ≡ Some x → x.count ≡ 0 → Row C no_obligations s → Closing x (closed_here C.setup i x s)
   unfolding closed_here
   row-closed_here x s open_ done R =
       left-closing x.id x.count x.root x.up x.waiters x.keep (option_and_then (λ (c : Capability). c.parent) (cap s x.root)) (woken x.waiters (swept x s))
       (woken-closing x x.waiters (swept x s) (row-swept x s open_ done R x.keep refl))
 
-  pub row-closed : (x : JobRow) (s : Side) → job s x.id ≡ Some x → x.count ≡ 0 → Row C free_hand s → Row C free_hand (closed C.setup i x s)
+  pub row-closed : (x : JobRow) (s : Side) → job s x.id ≡ Some x → x.count ≡ 0 → Row C no_obligations s → Row C no_obligations (closed C.setup i x s)
   row-closed x s open_ done R =
-      subst (λ t. Row C free_hand (up_told x.up t)) (sym (closed_here-late C.setup i x x.id s))
+      subst (λ t. Row C no_obligations (up_told x.up t)) (sym (closed_here-late C.setup i x x.id s))
       (told-row x.up (job_removed x.id (closed_here C.setup i x s)) (row-without x (closed_here C.setup i x s) (row-closed_here x s open_ done R) done))
 
   -- The chain.
@@ -514,8 +517,9 @@ module _ (C : Scene) where
   next-is (Some (Local j)) s y next = done-is s j y next
   next-is (Some (Remote kernel j)) s y next = absurd cc
 
-  pub row-finish : (n : ℕ) (o : Option JobRow) (s : Side) → ((x : JobRow) → o ≡ Some x → (job s x.id ≡ Some x) × (x.count ≡ 0)) → Row C free_hand s →
-      Row C free_hand (finish C.setup i n o s)
+  pub row-finish : (n : ℕ) (o : Option JobRow) (s : Side) → ((x : JobRow) → o ≡ Some x → (job s x.id ≡ Some x) × (x.count ≡ 0))
+      → Row C no_obligations s →
+      Row C no_obligations (finish C.setup i n o s)
   unfolding finish
   row-finish zero o s is R = R
   row-finish (suc n) None s is R = R
@@ -523,5 +527,5 @@ module _ (C : Scene) where
       let s2 : Side = closed C.setup i x s in
       row-finish n (next_done x.up s2.jobs) s2 (λ y next. next-is x.up s2 y next) (row-closed x s (is x refl).0 (is x refl).1 R)
 
-  pub row-settled : (j : ℕ) (s : Side) → Row C free_hand s → Row C free_hand (settled C.setup i j s)
+  pub row-settled : (j : ℕ) (s : Side) → Row C no_obligations s → Row C no_obligations (settled C.setup i j s)
   row-settled j s R = row-finish (length s.jobs) (if_done (job s j)) s (λ x done. done-is s j x done) R

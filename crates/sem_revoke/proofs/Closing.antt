@@ -22,14 +22,14 @@ use Rattle.sem_machine.specs.Machine.{World}
 use Rattle.sem_key.proofs.KeyTests.{key_eq-true, Contains-from_has_key, has_key-from_Contains}
 use Rattle.sem_key.proofs.Members.{not_found, Contains-filter, Contains-from_filter}
 use Rattle.sem_key.proofs.Puts.{get_or-put_same}
-use Rattle.sem_safety.specs.Seen.{Seen}
+use Rattle.sem_safety.specs.Observations.{ObservedSide}
 use Rattle.sem_safety.proofs.Updates.{seen-cap_changed}
 use Rattle.sem_machine.proofs.Weighing.{weigh-none}
 use Rattle.sem_safety.proofs.Lives.{at_side, at_cap}
 use Rattle.sem_safety.proofs.LiveWorlds.{sum-le}
 use Rattle.sem_safety.proofs.JobIds.{HasIds, ids}
 use Rattle.sem_sound.proofs.Rising.{mapped-rises}
-use Rattle.sem_revoke.specs.Views.{Hand, free_hand, token}
+use Rattle.sem_revoke.specs.Views.{Obligations, no_obligations, token}
 use Rattle.sem_revoke.specs.Scales.{Scale, sum_from, of_messages, of_inbox, of_side, of_world, bit, names, requesting, naming, counting, noticing, straying}
 use Rattle.sem_revoke.specs.Scales.{requesting_message, token_message}
 use Rattle.sem_revoke.proofs.Keeping.{HoldsOn, holds-same, cases_Option, not-gone}
@@ -185,9 +185,9 @@ module _ (C : Scene) where
   ]
 
   -- A token comes back to a job of this kernel.
-  pub row-lowered : (s : Side) (j : ℕ) (x : JobRow) → job s j ≡ Some x → Row C (token i j) s → Row C free_hand (count_lowered j s)
+  pub row-lowered : (s : Side) (j : ℕ) (x : JobRow) → job s j ≡ Some x → Row C (token i j) s → Row C no_obligations (count_lowered j s)
   row-lowered s j x open_ R =
-      step C (token i j) free_hand s (count_lowered j s)
+      step C (token i j) no_obligations s (count_lowered j s)
       (holds-same (owner C) C.parent C.one_parent C.made (view C s) (view C (count_lowered j s)) (λ k. refl) (λ k. omega arith))
       (changed-roots C s j lower (λ x. (refl, refl)) (λ x there. (λ is. is, λ is. is)))
       R.rises (ids.keeps_changed s R.ids j lower (λ x. (refl, refl))) R.homes (record { inbox = R.sent.inbox; sends = R.sent.sends })
@@ -216,7 +216,7 @@ module _ (C : Scene) where
       lower : JobRow → JobRow
       lower x = record x { count = x.count - 1 }
 
-      -- the token that is in the hand is counted
+      -- the token that the row owes is counted
       some : 1 ≤ x.count
       some =
           let is = R.revokes.counted i j in
@@ -233,7 +233,7 @@ module _ (C : Scene) where
     f c = record c { children = without_key c.children k }
 
     cap-t : (q : KeyName) → cap t q ≡ (if key_eq q p then option_map f (cap s q) else cap s q)
-    cap-t q = ap (λ (z : Seen). z.cap q) (seen-cap_changed p f s (λ c. refl))
+    cap-t q = ap (λ (z : ObservedSide). z.cap q) (seen-cap_changed p f s (λ c. refl))
 
     -- a child that is left was a child, and a child that is not k is left
     still : (ks : List KeyName) (q : KeyName) → has_key (without_key ks k) q ≡ true → has_key ks q ≡ true
@@ -314,7 +314,7 @@ module _ (C : Scene) where
         fewer = λ q. let same = gifts q in omega (arith, same);
       }
 
-      pub row-unlinked : (h : Hand) → Row C h s → Row C h t
+      pub row-unlinked : (h : Obligations) → Row C h s → Row C h t
       row-unlinked h R =
           step C h h s t unlinked-holds (no-roots C s t refl) (changed-rises (λ c. key_eq c.key p) f (λ c. refl) s.caps R.rises)
           (record { rise = R.ids.rise; drawn = R.ids.drawn })

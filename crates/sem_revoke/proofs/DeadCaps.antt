@@ -7,7 +7,7 @@ use Rattle.std.proofs.Common.{eq-eqb}
 use Rattle.std.specs.Prelude.{◌==◌, if◌then◌else◌}
 use Rattle.std.specs.List.{Contains}
 use Rattle.std.specs.Option.{option_map_or}
-use Rattle.std.proofs.lemmas.Bool.{cases_Bool, cases_eq, cond_both, cond-true, and_parts, and_from, true≢false, not-true}
+use Rattle.std.proofs.lemmas.Bool.{cases_Bool, cond_both, cond-true, and_parts, and_from, true≢false, not-true}
 use Rattle.std.proofs.lemmas.List.Elements.{Contains-append_cases}
 use Rattle.std.proofs.lemmas.Option.{same_Some}
 use Rattle.sem_key.specs.KeyName.{KeyName, key_eq}
@@ -32,7 +32,7 @@ use Rattle.sem_msg.specs.Lookups.{kernel_of}
 use Rattle.sem_machine.specs.Sides.{Side, row, cap, parked, unparked, buried, job_opened, mark_all, unbind_all}
 use Rattle.sem_machine.specs.Asks.{asker, waits_for, is_unawaited, promise_freed, call_refused, refusal_sent, ask_refused}
 use Rattle.sem_machine.specs.Revokes.{request_or_adopt, opened, begin}
-use Rattle.sem_machine.specs.Ends.{ask_ended, call_ended, keys_of, revoked_if_left, ended_but_held, ended}
+use Rattle.sem_machine.specs.Ends.{ask_ended, call_ended, keys_of_vpe, revoked_if_left, ended_but_held, ended}
 use Rattle.sem_machine.specs.Sound.{IsSound}
 use Rattle.sem_machine.proofs.Folds.{in_turn-keeps}
 use Rattle.sem_sound.proofs.Refusing.{revoked-sound, ended_but_held-sound}
@@ -258,12 +258,12 @@ module _ (k : KeyName) where
           unkept : Unkept left
           unkept = unkept-left (parked answered v) refl
 
-          by : (o : Option Capability) → cap left k ≡ o → Buried (in_turn (revoked_if_left T i) (keys_of left v) left)
-          by None none = in_turn-keeps Buried (revoked_if_left T i) (λ q u here. rest-steady Buried buried-steady T i q u here) (keys_of left v) left
+          by : (o : Option Capability) → cap left k ≡ o → Buried (in_turn (revoked_if_left T i) (keys_of_vpe left v) left)
+          by None none = in_turn-keeps Buried (revoked_if_left T i) (λ q u here. rest-steady Buried buried-steady T i q u here) (keys_of_vpe left v) left
               ((λ c among same. let no' : None ≡ Some c = sym none ∙ one-held left sound-left c among same in absurd cc), unkept)
           by (Some c) held =
               let there = found (λ (x : Capability). key_eq x.key k) left.caps c held in
               let among : Contains (CapList.keys_of left.caps) k = subst (Contains (CapList.keys_of left.caps)) (key_eq-true c.key k there.1)
               (Contains-map (λ (x : Capability). x.key) left.caps c there.0) in
-              all-revoked (keys_of left v) left sound-left unkept (Contains-filter (λ (q : KeyName). q.vpe == v) (CapList.keys_of left.caps) k among
+              all-revoked (keys_of_vpe left v) left sound-left unkept (Contains-filter (λ (q : KeyName). q.vpe == v) (CapList.keys_of left.caps) k among
               (eq-eqb v v refl))

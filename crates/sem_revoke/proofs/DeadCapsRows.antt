@@ -31,7 +31,7 @@ use Rattle.sem_machine.specs.Calls.{next_key, call_row}
 use Rattle.sem_machine.specs.Upcalls.{given, given_kind, given_here, ask_decided, upcall_row}
 use Rattle.sem_machine.specs.Handles.{acknowledged, handled}
 use Rattle.sem_machine.specs.Resumes.{delegate_granted, delegate_resumed, resumed, resume_row}
-use Rattle.sem_machine.specs.Ends.{ask_ended, call_ended, keys_of, revoked_if_left, ended}
+use Rattle.sem_machine.specs.Ends.{ask_ended, call_ended, keys_of_vpe, revoked_if_left, ended}
 use Rattle.sem_machine.proofs.Folds.{in_turn-keeps, option-keeps}
 use Rattle.sem_safety.proofs.Skeleton.{decided-by, call_row-by, handled-by}
 use Rattle.sem_revoke.proofs.DeadCaps.{Unkept, Buried, buried-steady}
@@ -85,7 +85,7 @@ module _ (k : KeyName) (T : Setup) (i : ℕ) where
       in_turn-keeps B (ask_ended T i) (λ a t here. cond_both (is_unawaited T i t a) t (ask_refused T i Dead a t) B (λ _. here)
       (λ _. refused-buried Dead a t here)) asks (buried w s) is in
       let last : Side = call_ended T (parked answered w) w (unparked w answered) in
-      in_turn-keeps B (revoked_if_left T i) (λ q t here. rest-steady B (buried-steady k) T i q t here) (keys_of last w) last
+      in_turn-keeps B (revoked_if_left T i) (λ q t here. rest-steady B (buried-steady k) T i q t here) (keys_of_vpe last w) last
       (owes (parked answered w) (unparked w answered) told)
     where
       owes : (p : Option Parked) (t : Side) → B t → B (call_ended T p w t)

@@ -29,7 +29,7 @@ use Rattle.sem_machine.specs.Asks.{asker, is_unawaited, promise_freed, call_refu
 use Rattle.sem_machine.specs.Revokes.{count_raised, count_lowered, other_marker, adopted, request_or_adopt, swept, woken, parent_left, up_told, left_parent}
 use Rattle.sem_machine.specs.Revokes.{closed_here, closed, finish, settled, opened, begin, revoke_begun, clear_begun, ready_freed, obtain_cancelled}
 use Rattle.sem_machine.specs.Revokes.{request_begun, revoke_requested, revoke_done}
-use Rattle.sem_machine.specs.Ends.{ask_ended, call_ended, revoked_if_left, keys_of, ended}
+use Rattle.sem_machine.specs.Ends.{ask_ended, call_ended, revoked_if_left, keys_of_vpe, ended}
 use Rattle.sem_machine.proofs.Folds.{in_turn-keeps, option-keeps}
 use Rattle.sem_machine.proofs.Weighing.{of_option, weigh-put, weigh-drop}
 use Rattle.sem_revoke.specs.Delegations.{of_message, of_messages, of_parked, of_inbox, of_side}
@@ -184,7 +184,7 @@ module _ (k0 : KeyName) (m : ℕ) where
       (λ _. few-ask_refused T i Dead a s few)) (row t u).asks (buried u t) is in
       let last : Side = call_ended T (parked answered u) u (unparked u answered) in
       let taken = side-unparked k0 answered u in
-      in_turn-keeps Few (revoked_if_left T i) (λ k s few. few-left_over T i k s few) (keys_of last u) last
+      in_turn-keeps Few (revoked_if_left T i) (λ k s few. few-left_over T i k s few) (keys_of_vpe last u) last
       (few-owed T (parked answered u) u (unparked u answered) (omega (arith, told, taken)))
 
   -- A revoke, a clear, and what comes from other kernels.

@@ -29,7 +29,7 @@ use Rattle.sem_machine.specs.Sides.{Side, row, parked, unparked, is_alive, burie
 use Rattle.sem_machine.specs.Steps.{unshown}
 use Rattle.sem_machine.specs.Asks.{asker, is_unawaited, promise_freed, refusal_sent, ask_refused}
 use Rattle.sem_machine.specs.Calls.{call_row}
-use Rattle.sem_machine.specs.Ends.{ask_ended, call_ended, keys_of, revoked_if_left, ended}
+use Rattle.sem_machine.specs.Ends.{ask_ended, call_ended, keys_of_vpe, revoked_if_left, ended}
 use Rattle.sem_machine.specs.Journals.{ends, has_ended}
 use Rattle.sem_machine.specs.Machine.{World, side, start, input_of, next_call, local_step, detail_of, entry_of, after, is_enabled}
 use Rattle.sem_machine.specs.Schedules.{IsSchedule, world_after}
@@ -79,7 +79,7 @@ module _ (v : ℕ) where
       (λ _. refuses a t here)) asks (buried v s)
       (ap (λ (r : VpeRow). r.alive) (get_or-put_same no_vpe s.vpes v (record (row s v) { alive = false; asks = [] }))) in
       let last : Side = call_ended T (parked answered v) v (unparked v answered) in
-      in_turn-keeps IsDead (revoked_if_left T i) (λ k t here. rest-steady IsDead steady T i k t here) (keys_of last v) last
+      in_turn-keeps IsDead (revoked_if_left T i) (λ k t here. rest-steady IsDead steady T i k t here) (keys_of_vpe last v) last
       (owes (parked answered v) (unparked v answered) told)
     where
       refuses : (a : Ask) (t : Side) → IsDead t → IsDead (ask_refused T i Dead a t)

@@ -31,7 +31,7 @@ use Rattle.sem_safety.proofs.GrownLines.{parent-grown, parent-is, child-grown}
 use Rattle.sem_safety.proofs.Lives.{all_held, at_key, at_grant}
 use Rattle.sem_safety.proofs.LiveWorlds.{at_world}
 use Rattle.sem_safety.proofs.JobIds.{HasIds}
-use Rattle.sem_revoke.specs.Views.{free_hand, IsFit, Revokes, IsCaused}
+use Rattle.sem_revoke.specs.Views.{no_obligations, IsFit, Revokes, IsCaused}
 use Rattle.sem_revoke.specs.Scales.{Scale, sum_from, of_messages, of_side, of_inbox, of_world, requesting, naming, counting, noticing, straying}
 use Rattle.sem_revoke.proofs.Scaling.{world-side}
 use Rattle.sem_revoke.proofs.Viewing.{on_its_way, Rises, Scene, Row}
@@ -108,7 +108,7 @@ anything gs W = record { lost = λ k. Unit {0}; lower = λ p k granted is. tt; c
 
 -- what is so of its revocation
 abbrev pub Holds : Setup → List (KeyName × KeyName) → World → Type 0
-Holds T gs W = Revokes (owner_of T) (Par gs) (Made T gs) free_hand (whole T W)
+Holds T gs W = Revokes (owner_of T) (Par gs) (Made T gs) no_obligations (whole T W)
 
 pub own-cap : (s : Side) (v sel : ℕ) (c : Capability) → own s v sel ≡ Some c → cap s c.key ≡ Some c
 own-cap s v sel c held = from (slot s v sel) held
@@ -152,11 +152,11 @@ module _ (T : Setup) (gs : List (KeyName × KeyName)) (W : World) (R : IsReady T
   abbrev pub s : Side
   s = side W i
 
-  pub entered : Row C free_hand s
+  pub entered : Row C no_obligations s
   entered = enter C R.fit H (R.rises i) (R.ids i) (R.homes i) (record { inbox = refl; sends = λ j. ([], sym (append-nil (outbox (side W i) j)), λ k. refl) })
       (L.caused i) (λ k c was. inl (c, was))
 
-  pub left : (t : Side) → Row C free_hand t → Holds T gs (with_side i t W)
+  pub left : (t : Side) → Row C no_obligations t → Holds T gs (with_side i t W)
   left t S = leave C t S
 
   -- the grants with one more, if one is made

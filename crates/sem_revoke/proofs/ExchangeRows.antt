@@ -35,7 +35,7 @@ use Rattle.sem_machine.specs.Calls.{next_key, next_place, ask_made, offer_made, 
 use Rattle.sem_machine.specs.Upcalls.{source, source_tests, given, given_kind, given_here, child_given, parent_tests, delegate_here, delegate_prepared}
 use Rattle.sem_machine.specs.Upcalls.{consented, ask_decided, upcall_row}
 use Rattle.sem_machine.specs.Resumes.{delegate_granted, delegate_resumed, resumed, resume_row}
-use Rattle.sem_machine.specs.Ends.{ask_ended, call_ended, keys_of, revoked_if_left, ended}
+use Rattle.sem_machine.specs.Ends.{ask_ended, call_ended, keys_of_vpe, revoked_if_left, ended}
 use Rattle.sem_machine.proofs.Folds.{in_turn-keeps}
 use Rattle.sem_machine.proofs.FirstCodes.{unless-keeps, unless-passed}
 use Rattle.sem_machine.proofs.Weighing.{weigh-put, weigh-drop, of_option}
@@ -102,7 +102,7 @@ module _ (x : Exchange) (T : Setup) (i : ℕ) (s0 : Side) where
       let asks : List Ask = (row s w).asks in
       let answered : Side = in_turn (ask_ended T i) asks (buried w s) in
       let last : Side = call_ended T (parked answered w) w (unparked w answered) in
-      in_turn-keeps (K m) (revoked_if_left T i) (λ k t here. rest-steady (K m) (steady x T i s0 m) T i k t here) (keys_of last w) last
+      in_turn-keeps (K m) (revoked_if_left T i) (λ k t here. rest-steady (K m) (steady x T i s0 m) T i k t here) (keys_of_vpe last w) last
       (owes (parked answered w) (unparked w answered) (gone (cases_eq w v)))
     where
       asks : List Ask

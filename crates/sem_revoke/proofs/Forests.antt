@@ -35,7 +35,7 @@ use Rattle.sem_machine.specs.Resumes.{delegate_granted, delegate_resumed, resume
 use Rattle.sem_key.specs.Region.{has_key}
 use Rattle.sem_machine.specs.Machine.{World, side, start, local_step, local_entry, input_of, entry_of}
 use Rattle.sem_machine.specs.Schedules.{IsSchedule, world_after}
-use Rattle.sem_machine.specs.Journals.{grants, root_keys, made, line, cut, has_ended, descends_from_any, forest, cut_off, cut_by, cut_from}
+use Rattle.sem_machine.specs.Journals.{grants, root_keys, made, ancestry, cut, has_ended, descends_from_any, forest, cut_off, cut_by, cut_from}
 use Rattle.sem_machine.specs.Living.{HoldsCap, IsLive}
 use Rattle.sem_key.proofs.KeyTests.{key_eq-true, has_key-from_Contains}
 use Rattle.sem_key.proofs.Members.{Contains-nil, Contains-cons_cases, Contains-filter, Contains-from_filter, Contains-from_map, list_any-at, Contains-map}
@@ -223,7 +223,7 @@ module _ (T : Setup) (valid : IsSetup T) (J : List Entry) (runs : IsSchedule T J
         parts.0,
         λ cause.
             let there : Contains (made T J) cause.0 = line-grown (root_keys T) (grants J) (all-grown T valid J runs) (length J) k cause.0 parts.0 cause.1 in
-            true≢false (sym (list_any-at (has_key (cut T J)) (line J k) cause.0 cause.1
+            true≢false (sym (list_any-at (has_key (cut T J)) (ancestry J k) cause.0 cause.1
             (has_key-from_Contains (cut T J) cause.0 (in-cut cause.0 there cause.2))) ∙ free),
       )
 

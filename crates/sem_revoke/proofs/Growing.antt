@@ -48,7 +48,7 @@ use Rattle.sem_machine.specs.Upcalls.{delegate_prepared, delegate_consent, conse
 use Rattle.sem_machine.specs.Handles.{obtain_ready, delegation_dropped}
 use Rattle.sem_machine.specs.Resumes.{delegate_granted, delegate_resumed, resumed, resume_row}
 use Rattle.sem_key.proofs.KeyTests.{key_eq-same, key_eq-true, Contains-from_has_key, has_key-from_Contains}
-use Rattle.sem_safety.specs.Seen.{Seen}
+use Rattle.sem_safety.specs.Observations.{ObservedSide}
 use Rattle.sem_key.proofs.KeySets.{with_key-has, with_key-keeps, with_key-from}
 use Rattle.sem_machine.proofs.Folds.{option-keeps}
 use Rattle.sem_machine.proofs.FirstCodes.{unless-keeps}
@@ -177,7 +177,7 @@ module _ (own_by : KeyName → ℕ) (i : ℕ) (s : Side) (link : KeyName → Key
   }
     where
       out : (q : ℕ) → outbox (send j m t) q ≡ (if q == j then outbox t j ++ m ∷ [] else outbox t q)
-      out q = ap (λ (z : Seen). z.outbox q) (seen-send j m t)
+      out q = ap (λ (z : ObservedSide). z.outbox q) (seen-send j m t)
 
       more : (q : ℕ) → (ms : List Message) × (outbox (send j m t) q ≡ outbox s q ++ ms) × ((k : KeyName) → 1 ≤ sum_by (at_message k) ms →
           (own_by k ≡ q) × ((p : KeyName) × link p k))
@@ -230,7 +230,7 @@ module _ (own_by : KeyName → ℕ) (i : ℕ) (s : Side) (link : KeyName → Key
   }
     where
       cap-u : (p : KeyName) → cap (cap_added c t) p ≡ (if key_eq p c.key then Some c else cap t p)
-      cap-u p = ap (λ (z : Seen). z.cap p) (seen-cap_added c t)
+      cap-u p = ap (λ (z : ObservedSide). z.cap p) (seen-cap_added c t)
 
   pub grown-linked : (t : Side) (p k : KeyName) → link p k → Grown Unlinked t → Grown (LinkedNow p k) (linked p k t)
   grown-linked t p k is_link G = record {
@@ -268,14 +268,14 @@ module _ (own_by : KeyName → ℕ) (i : ℕ) (s : Side) (link : KeyName → Key
             d,
             (
               f e.0,
-              ap (λ (z : Seen). z.cap p) (seen-cap_changed p f t (λ c. refl))
+              ap (λ (z : ObservedSide). z.cap p) (seen-cap_changed p f t (λ c. refl))
                   ∙ (cond-true (key_eq p p) (option_map f (cap t p)) (cap t p) (key_eq-same p) ∙ ap (option_map f) e.1),
               has_key-from_Contains (with_key e.0.children k) k (with_key-has e.0.children k),
             ),
           )
 
       cap-u : (q : KeyName) → cap (linked p k t) q ≡ (if key_eq q p then option_map f (cap t q) else cap t q)
-      cap-u q = ap (λ (z : Seen). z.cap q) (seen-cap_changed p f t (λ c. refl))
+      cap-u q = ap (λ (z : ObservedSide). z.cap q) (seen-cap_changed p f t (λ c. refl))
 
       on-u : (q : KeyName) (d : Capability) → cap t q ≡ Some d → (e : Capability) × (cap (linked p k t) q ≡ Some e) × (e.mark ≡ d.mark)
           × ((r : KeyName) → has_key d.children r ≡ true → has_key e.children r ≡ true)

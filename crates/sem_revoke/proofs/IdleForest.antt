@@ -21,7 +21,7 @@ use Rattle.sem_machine.specs.Sides.{Side, cap, parked, is_alive}
 use Rattle.sem_machine.specs.Resumes.{can_resume}
 use Rattle.sem_machine.specs.Machine.{World, side}
 use Rattle.sem_machine.specs.Schedules.{IsSchedule, world_after}
-use Rattle.sem_machine.specs.Journals.{grants, parent_in, line_in, line, cut, cut_from, has_ended, descends_from_any, forest, made, root_keys}
+use Rattle.sem_machine.specs.Journals.{grants, parent_in, ancestry_in, ancestry, cut, cut_from, has_ended, descends_from_any, forest, made, root_keys}
 use Rattle.sem_machine.specs.Living.{HoldsCap, IsHeld, IsLive, IsIdle}
 use Rattle.sem_safety.proofs.GrownLines.{line-self, few-grants, child-grown, line-enough, parent-is, parent-granted}
 use Rattle.sem_sound.proofs.Named.{declared-kernel}
@@ -42,10 +42,10 @@ use Rattle.sem_revoke.proofs.Readying.{schedule-past}
 use Rattle.sem_revoke.proofs.Serving.{schedule-served, all-gone}
 use Rattle.sem_revoke.proofs.Waits.{Resting}
 
-line-alone : (n : ℕ) (gs : List (KeyName × KeyName)) (k : KeyName) → parent_in gs k ≡ None → line_in n gs k ≡ k ∷ []
-unfolding line_in
+line-alone : (n : ℕ) (gs : List (KeyName × KeyName)) (k : KeyName) → parent_in gs k ≡ None → ancestry_in n gs k ≡ k ∷ []
+unfolding ancestry_in
 line-alone zero gs k none = refl
-line-alone (suc n) gs k none = ap (λ o. k ∷ option_map_or (line_in n gs) o []) none
+line-alone (suc n) gs k none = ap (λ o. k ∷ option_map_or (ancestry_in n gs) o []) none
 
 -- what stands in a set of keys is one of them
 turned-from : (ks found' : List KeyName) (k : KeyName) → Contains (in_turn (λ q list. with_key list q) ks found') k → Contains found' k ⊎ Contains ks k
@@ -67,7 +67,7 @@ module _ (T : Setup) (valid : IsSetup T) (J : List Entry) (runs : IsSchedule T J
   gs = grants J
 
   abbrev depth : KeyName → ℕ
-  depth k = length (line_in (suc (length J)) gs k)
+  depth k = length (ancestry_in (suc (length J)) gs k)
 
   -- a capability is held by the kernel of its VPE
   home-of : (i : ℕ) (k : KeyName) (c : Capability) → HoldsCap W i k c → (kernel_of T k.vpe ≡ i) × (owner_of T k ≡ i)
@@ -126,23 +126,23 @@ module _ (T : Setup) (valid : IsSetup T) (J : List Entry) (runs : IsSchedule T J
   live-held k (inr (inr (inr ready))) = absurd (still W idle (by_call ready.kernel ready.vpe (ap can_resume ready.ready)))
 
   -- the line of a child goes on with that of its parent
-  line-on : (p k a : KeyName) → Contains gs (p, k) → Contains (line J k) a → (k ≡ a) ⊎ Contains (line J p) a
-  unfolding line_in
+  line-on : (p k a : KeyName) → Contains gs (p, k) → Contains (ancestry J k) a → (k ≡ a) ⊎ Contains (ancestry J p) a
+  unfolding ancestry_in
   line-on p k a granted among =
       let grown_so = all-grown T valid J runs in
       let few = few-grants J in
       let there = child-grown (root_keys T) gs p k granted in
-      let longer : line J k ≡ line_in (suc (length J)) gs k =
+      let longer : ancestry J k ≡ ancestry_in (suc (length J)) gs k =
       line-enough (root_keys T) gs grown_so (length J) (suc (length J)) k few (omega (arith, few)) there in
       from (subst (λ ks. Contains ks a) longer among)
     where
-      from : Contains (line_in (suc (length J)) gs k) a → (k ≡ a) ⊎ Contains (line J p) a
-      from here = Contains-cons_cases k (line J p) a (subst (λ (o : Option KeyName). Contains (k ∷ option_map_or (line_in (length J) gs) o []) a)
+      from : Contains (ancestry_in (suc (length J)) gs k) a → (k ≡ a) ⊎ Contains (ancestry J p) a
+      from here = Contains-cons_cases k (ancestry J p) a (subst (λ (o : Option KeyName). Contains (k ∷ option_map_or (ancestry_in (length J) gs) o []) a)
           (parent-is (root_keys T) gs (all-grown T valid J runs) p k granted) here)
 
   -- nor was what is above it
-  uncut-step : (k : KeyName) → IsHeld W k → (a : KeyName) → Contains (line J k) a → IsCutOff J a →
-      ((p : KeyName) → Contains gs (p, k) → IsHeld W p → Contains (line J p) a → ⊥) → ⊥
+  uncut-step : (k : KeyName) → IsHeld W k → (a : KeyName) → Contains (ancestry J k) a → IsCutOff J a →
+      ((p : KeyName) → Contains gs (p, k) → IsHeld W p → Contains (ancestry J p) a → ⊥) → ⊥
   uncut-step k held a among cut' rest = from (parent_in gs k) refl
     where
       from : (o : Option KeyName) → parent_in gs k ≡ o → ⊥
@@ -159,7 +159,7 @@ module _ (T : Setup) (valid : IsSetup T) (J : List Entry) (runs : IsSchedule T J
             | inr above ↦ let up = all-linked T valid J runs p k (inl held) granted in rest p granted (owner_of T p, subst IsSome (sym up.1) refl) above
           ]
 
-  uncut : (n : ℕ) (k : KeyName) → IsHeld W k → depth k ≤ n → (a : KeyName) → Contains (line J k) a → IsCutOff J a → ⊥
+  uncut : (n : ℕ) (k : KeyName) → IsHeld W k → depth k ≤ n → (a : KeyName) → Contains (ancestry J k) a → IsCutOff J a → ⊥
   uncut zero k held small a among cut' = uncut-step k held a among cut' (λ p granted held' above. let more = deeper T valid J runs p k granted in
       absurd (omega (arith, more, small)))
   uncut (suc n) k held small a among cut' = uncut-step k held a among cut' (λ p granted held' above. let more = deeper T valid J runs p k granted in
@@ -189,5 +189,5 @@ module _ (T : Setup) (valid : IsSetup T) (J : List Entry) (runs : IsSchedule T J
     where
       free : IsHeld W k → not (descends_from_any J (cut T J) k) ≡ true
       free held = ap not (false_from_ne_true (descends_from_any J (cut T J) k) (λ descends.
-          let some = list_any-some (has_key (cut T J)) (line J k) descends in
+          let some = list_any-some (has_key (cut T J)) (ancestry J k) descends in
           uncut (depth k) k held (omega arith) some.0 some.1 (cut-is some.0 some.2)))

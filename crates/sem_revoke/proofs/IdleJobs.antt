@@ -17,7 +17,7 @@ use Rattle.sem_machine.specs.Sides.{parked, pending, job, outbox}
 use Rattle.sem_machine.specs.Resumes.{can_resume}
 use Rattle.sem_machine.specs.Machine.{World, side, link}
 use Rattle.sem_machine.specs.Schedules.{IsSchedule, world_after}
-use Rattle.sem_machine.specs.Journals.{grants, root_keys, parent_in, line_in}
+use Rattle.sem_machine.specs.Journals.{grants, root_keys, parent_in, ancestry_in}
 use Rattle.sem_machine.specs.Living.{way, fetched_from, HoldsCap, IsIdle}
 use Rattle.sem_safety.proofs.GrownLines.{parent-grown, line-enough, parent-is, few-grants}
 use Rattle.sem_safety.proofs.OneLife.{all-grown}
@@ -45,12 +45,12 @@ still W idle (by_message m (i, j, among)) = Contains-nil m (subst (λ ms. Contai
         ∙ (ap (λ ms. ms ++ outbox (side W i) j) (idle.links i j) ∙ idle.outboxes i j)
 
 -- a line is no longer than the bound by which it is read
-line-short : (n : ℕ) (gs : List (KeyName × KeyName)) (k : KeyName) → length (line_in n gs k) ≤ n + 1
-unfolding line_in
+line-short : (n : ℕ) (gs : List (KeyName × KeyName)) (k : KeyName) → length (ancestry_in n gs k) ≤ n + 1
+unfolding ancestry_in
 line-short zero gs k = omega arith
 line-short (suc n) gs k = from (parent_in gs k) (λ p. line-short n gs p)
   where
-    from : (o : Option KeyName) → ((p : KeyName) → length (line_in n gs p) ≤ n + 1) → length (k ∷ option_map_or (line_in n gs) o []) ≤ suc n + 1
+    from : (o : Option KeyName) → ((p : KeyName) → length (ancestry_in n gs p) ≤ n + 1) → length (k ∷ option_map_or (ancestry_in n gs) o []) ≤ suc n + 1
     from None rest = omega arith
     from (Some p) rest = let few = rest p in omega (arith, few)
 
@@ -59,17 +59,17 @@ module _ (T : Setup) (valid : IsSetup T) (J : List Entry) (runs : IsSchedule T J
   gs = grants J
 
   abbrev depth : KeyName → ℕ
-  depth k = length (line_in (suc (length J)) gs k)
+  depth k = length (ancestry_in (suc (length J)) gs k)
 
   -- a child is one deeper than its parent
   pub deeper : (p k : KeyName) → Contains gs (p, k) → depth k ≡ depth p + 1
-  unfolding line_in
+  unfolding ancestry_in
   deeper p k granted =
       let grown_so = all-grown T valid J runs in
       let few = few-grants J in
-      let at : option_map_or (line_in (length J) gs) (parent_in gs k) [] ≡ line_in (length J) gs p =
-      ap (λ o. option_map_or (line_in (length J) gs) o []) (parent-is (root_keys T) gs grown_so p k granted) in
-      let enough : line_in (length J) gs p ≡ line_in (suc (length J)) gs p =
+      let at : option_map_or (ancestry_in (length J) gs) (parent_in gs k) [] ≡ ancestry_in (length J) gs p =
+      ap (λ o. option_map_or (ancestry_in (length J) gs) o []) (parent-is (root_keys T) gs grown_so p k granted) in
+      let enough : ancestry_in (length J) gs p ≡ ancestry_in (suc (length J)) gs p =
       line-enough (root_keys T) gs grown_so (length J) (suc (length J)) p few (omega (arith, few)) (parent-grown (root_keys T) gs grown_so p k granted) in
       let count = ap length (at ∙ enough) in
       omega (arith, count)

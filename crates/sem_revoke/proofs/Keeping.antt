@@ -1,4 +1,4 @@
--- Small steps of a revoke keep what is so of a view, from one hand to the next. Here a view is any functions; what the changes of a side do to them comes
+-- Small steps of a revoke keep what is so of a view, and change what the row owes. Here a view is any functions; what the changes of a side do to them comes
 -- later.
 use Rattle.std.proofs.Common.{◌≡◌, ◌⊎◌, ℕ, ◌+◌, ◌≤◌, Bool, true, false, Option, Some, None, refl, sym, ap, ◌∙◌, subst, inl, inr, arith}
 use Rattle.std.proofs.lemmas.Bool.{cases_Bool, cases_eq}
@@ -8,7 +8,7 @@ use Rattle.sem_key.specs.Capability.{Capability}
 use Rattle.sem_key.specs.CapList.{with_mark}
 use Rattle.sem_msg.specs.Rows.{JobRow}
 use Rattle.sem_key.specs.Region.{has_key}
-use Rattle.sem_revoke.specs.Views.{View, Hand, free_hand, closing_job, IsAlone, Alive, Gone, Marked, Under, Caught, IsFit, Revokes, IsSingle}
+use Rattle.sem_revoke.specs.Views.{View, Obligations, no_obligations, closing_job, IsAlone, Alive, Gone, Marked, Under, Caught, IsFit, Revokes, IsSingle}
 
 -- an option is there or not
 pub cases_Option : {X : Type 0} (o : Option X) → ((x : X) × (o ≡ Some x)) ⊎ (o ≡ None)
@@ -77,7 +77,7 @@ module _ (owner : KeyName → ℕ) (G : KeyName → KeyName → Type 0) (one : (
     }
 
     -- A step that changes tokens, jobs and notices.
-    pub keep : (h h' : Hand) → IsFit owner G M V → Revokes owner G M h V
+    pub keep : (h h' : Obligations) → IsFit owner G M V → Revokes owner G M h V
         → ((k : KeyName) (a b : ℕ) → Alive owner G M U k → Under owner G M V k a b → (1 ≤ V.asked k a b) ⊎ h.cares a b k → Caught owner G M h' U a b k)
         → ((k : KeyName) (a b : ℕ) → 1 ≤ U.asked k a b → (1 ≤ V.asked k a b) ⊎ Under owner G M V k a b)
         → ((k : KeyName) (n : ℕ) (x : JobRow) → Marked owner G M V k n → V.job (owner k) n ≡ Some x → (y : JobRow) × (U.job (owner k) n ≡ Some y)
@@ -120,7 +120,7 @@ module _ (owner : KeyName → ℕ) (G : KeyName → KeyName → Type 0) (one : (
         caught-on p k n alive under (inr before) = caught' k (owner p) n alive under before
 
   -- A job begins: it marks its region, and answers for the children of that.
-  pub record Begins (h : Hand) (i j : ℕ) (root : KeyName) (region : KeyName → Bool) (child : KeyName → Bool) (V U : View) : Type 0 where
+  pub record Begins (h : Obligations) (i j : ℕ) (root : KeyName) (region : KeyName → Bool) (child : KeyName → Bool) (V U : View) : Type 0 where
     -- what is in the region is held here and not marked
     pub inside : (k : KeyName) → region k ≡ true → (c : Capability) × (V.hold k ≡ Some c) × (c.mark ≡ None) × (owner k ≡ i)
     pub root_in : region root ≡ true
@@ -144,7 +144,7 @@ module _ (owner : KeyName → ℕ) (G : KeyName → KeyName → Type 0) (one : (
     pub tight : (a b : ℕ) → h.loose a b → ⊥
     pub once : (k : KeyName) (a b : ℕ) → U.asked k a b ≤ 1
 
-  module _ (h : Hand) (i j : ℕ) (root : KeyName) (region : KeyName → Bool) (child : KeyName → Bool) (V U : View) (B : Begins h i j root region child V U) where
+  module _ (h : Obligations) (i j : ℕ) (root : KeyName) (region : KeyName → Bool) (child : KeyName → Bool) (V U : View) (B : Begins h i j root region child V U) where
     opened-on : (p : KeyName) (d : Capability) → V.hold p ≡ Some d → (e : Capability) × (U.hold p ≡ Some e) × (e.children ≡ d.children)
         × ((n : ℕ) → d.mark ≡ Some n → e.mark ≡ Some n)
     opened-on p d held = elim (cases_Bool (region p)) [
@@ -201,7 +201,7 @@ module _ (owner : KeyName → ℕ) (G : KeyName → KeyName → Type 0) (one : (
       made = λ k alive. fit.made k (opened-alive k alive);
     }
 
-    pub keep_begun : (h' : Hand) → ((k : KeyName) → child k ≡ true → h'.cares i j k) → ((a b : ℕ) → h'.owed a b ≡ 0) →
+    pub keep_begun : (h' : Obligations) → ((k : KeyName) → child k ≡ true → h'.cares i j k) → ((a b : ℕ) → h'.owed a b ≡ 0) →
         ((k : KeyName) (a b : ℕ) → h'.cares a b k → U.asked k a b ≡ 0) → IsFit owner G M V → Revokes owner G M h V → Revokes owner G M h' U
     keep_begun h' cares owes unasked fit R = record {
       linked = λ p k granted alive. let d = R.linked p k granted (opened-alive k alive) in let e = opened-on p d.0 d.1 in
@@ -298,7 +298,7 @@ module _ (owner : KeyName → ℕ) (G : KeyName → KeyName → Type 0) (one : (
     }
 
     -- a child of what was swept is gone
-    orphan-gone : (p k : KeyName) → IsFit owner G M V → Caught owner G M free_hand V (owner p) n k → owner p ≡ i → Alive owner G M U k → ⊥
+    orphan-gone : (p k : KeyName) → IsFit owner G M V → Caught owner G M no_obligations V (owner p) n k → owner p ≡ i → Alive owner G M U k → ⊥
     orphan-gone p k fit (inl (at, (c, held, marked))) here alive =
         let gone : U.hold k ≡ None = S.swept k c (at ∙ here) held marked in
         let zero' = fit.apart k c held in
@@ -308,7 +308,7 @@ module _ (owner : KeyName → ℕ) (G : KeyName → KeyName → Type 0) (one : (
         omega (arith, more, zero', same)
     orphan-gone p k fit (inr (inr care)) here alive = care
 
-    pub keep_swept : IsFit owner G M V → Revokes owner G M free_hand V → Revokes owner G M (closing_job i n) U
+    pub keep_swept : IsFit owner G M V → Revokes owner G M no_obligations V → Revokes owner G M (closing_job i n) U
     keep_swept fit R = record {
       linked = λ p k granted alive.
           let d = R.linked p k granted (swept-alive k alive) in
@@ -346,7 +346,7 @@ module _ (owner : KeyName → ℕ) (G : KeyName → KeyName → Type 0) (one : (
       placed = S.misplaced;
     }
       where
-        old : (p k : KeyName) (m : ℕ) → ((owner p ≡ i) × (m ≡ n) → ⊥) → Caught owner G M free_hand V (owner p) m k →
+        old : (p k : KeyName) (m : ℕ) → ((owner p ≡ i) × (m ≡ n) → ⊥) → Caught owner G M no_obligations V (owner p) m k →
             Caught owner G M (closing_job i n) U (owner p) m k
         old p k m other (inl (at, marked)) = inl (at, swept-marked k m marked (λ (here, job). other (sym at ∙ here, job)))
         old p k m other (inr (inl more)) = let same = S.asked_on k (owner p) m in inr (inl (omega (arith, more, same)))

@@ -14,10 +14,10 @@ use Rattle.sem_msg.specs.Rows.{JobRow}
 use Rattle.sem_msg.specs.Setup.{Setup}
 use Rattle.sem_machine.specs.Sides.{Side, cap, job, parked, call_counted, parked_as, freed, with_inbox}
 use Rattle.sem_machine.specs.Revokes.{begin, count_lowered, with_up, waiter_added, revoke_begun, ready_freed, obtain_cancelled, request_begun, revoke_requested}
-use Rattle.sem_machine.specs.Ends.{revoked_if_left, keys_of, ended_but_held, ended}
+use Rattle.sem_machine.specs.Ends.{revoked_if_left, keys_of_vpe, ended_but_held, ended}
 use Rattle.sem_machine.specs.Machine.{World, side}
 use Rattle.sem_machine.proofs.Folds.{in_turn-keeps}
-use Rattle.sem_revoke.specs.Views.{free_hand}
+use Rattle.sem_revoke.specs.Views.{no_obligations}
 use Rattle.sem_revoke.proofs.Closing.{row-lowered}
 use Rattle.sem_revoke.proofs.Events.{Par, IsReady, Holds, Losing, anything, own-cap}
 use Rattle.sem_revoke.proofs.Leading.{Below, IsKept, below-steady}
@@ -25,7 +25,7 @@ use Rattle.sem_revoke.proofs.LeadingJobs.{Leads, NoGrant, leads-kept, leads-sett
 use Rattle.sem_revoke.proofs.LeadingRows.{Revokings, ended-led, all-ended}
 use Rattle.sem_revoke.proofs.Rowing.{settled_if_there, revoked_if_there, row-opened_at, row-opened_for, row-parked, row-left, row-ended_but_held}
 use Rattle.sem_revoke.proofs.Steady.{rest-steady}
-use Rattle.sem_revoke.proofs.Turning.{here, there, in_row, counted-row, request-hand, token-hand}
+use Rattle.sem_revoke.proofs.Turning.{here, there, in_row, counted-row, request-owed, token-owed}
 use Rattle.sem_revoke.proofs.Viewing.{Scene, Row}
 
 -- The revokes of kernel i that begin in a world. p is the parent of k by a grant, and what the kernel holds of k names it.
@@ -50,13 +50,13 @@ module _ (T : Setup) (gs : List (KeyName × KeyName)) (W : World) (R : IsReady T
   K = leads-kept C p k granted
 
   -- a job begins for nobody else
-  begun : (root : KeyName) (ws : List ℕ) (keep : Bool) (t : Side) (c : Capability) → cap t root ≡ Some c → c.mark ≡ None → Row C free_hand t → Below p k t →
+  begun : (root : KeyName) (ws : List ℕ) (keep : Bool) (t : Side) (c : Capability) → cap t root ≡ Some c → c.mark ≡ None → Row C no_obligations t → Below p k t →
       Led t
       → Led (begin T i root None ws keep t)
   begun root ws keep t c held unmarked R' B L =
       leads-begun C p k granted root None ws keep t (row-opened_at C root ws keep (λ _. tt, λ q g. tt) t c held unmarked R') B L
 
-  left : (q : KeyName) (t : Side) → Row C free_hand t → Below p k t → Led t → Led (revoked_if_left T i q t)
+  left : (q : KeyName) (t : Side) → Row C no_obligations t → Below p k t → Led t → Led (revoked_if_left T i q t)
   left q t R' B L = from (cap t q) refl
     where
       from : (o : Option Capability) → cap t q ≡ o → Led (revoked_if_there T i q o t)
@@ -67,12 +67,12 @@ module _ (T : Setup) (gs : List (KeyName × KeyName)) (W : World) (R : IsReady T
           by None unmarked = begun q [] false t c held unmarked R' B L
           by (Some n) marked = L
 
-  ends : (v : ℕ) (t : Side) → Row C free_hand t → Below p k t → Led t → Led (ended T i v t)
+  ends : (v : ℕ) (t : Side) → Row C no_obligations t → Below p k t → Led t → Led (ended T i v t)
   ends v t R' B L =
       let last : Side = ended_but_held T i v t in
-      let all = in_turn-keeps (λ (u : Side). Row C free_hand u × Below p k u × Led u) (revoked_if_left T i)
+      let all = in_turn-keeps (λ (u : Side). Row C no_obligations u × Below p k u × Led u) (revoked_if_left T i)
       (λ q u (row', below', led'). (row-left C q u tt row', rest-steady (Below p k) (below-steady p k) T i q u below', left q u row' below' led'))
-      (keys_of last v) last (
+      (keys_of_vpe last v) last (
         row-ended_but_held C v t (λ q same. tt) R',
         ended-led T i (Below p k) (λ a b caps outs is. subst (λ cs. (c : Capability) → Contains cs c → c.key ≡ k → c.parent ≡ Some p) (sym caps) is)
             (λ a j m is. is) v t B,
@@ -87,7 +87,7 @@ module _ (T : Setup) (gs : List (KeyName × KeyName)) (W : World) (R : IsReady T
         let t : Side = call_counted v s in
         let w : Side = parked_as v (RevokeWait t.next_job) t in
         begun c.key (v ∷ []) true w c (own-cap t v src c held) unmarked
-        (row-parked C free_hand v (RevokeWait t.next_job) t (λ q. refl) (counted-row T gs W R H A i v)) below (K.other s w refl refl L);
+        (row-parked C no_obligations v (RevokeWait t.next_job) t (λ q. refl) (counted-row T gs W R H A i v)) below (K.other s w refl refl L);
     exits = λ v. ends v (call_counted v s) (counted-row T gs W R H A i v) below (K.other s (call_counted v s) refl refl L);
     kills = λ v. ends v s (in_row T gs W R H A i) below L;
     requests = λ from q j full. requested from q j full (cap (with_inbox None s) q) refl;
@@ -99,7 +99,7 @@ module _ (T : Setup) (gs : List (KeyName × KeyName)) (W : World) (R : IsReady T
       revoke v c held None unmarked =
           let t : Side = call_counted v s in
           let w : Side = parked_as v (RevokeWait t.next_job) t in
-          begun c.key (v ∷ []) false w c held unmarked (row-parked C free_hand v (RevokeWait t.next_job) t (λ q. refl) (counted-row T gs W R H A i v)) below
+          begun c.key (v ∷ []) false w c held unmarked (row-parked C no_obligations v (RevokeWait t.next_job) t (λ q. refl) (counted-row T gs W R H A i v)) below
           (K.other s w refl refl L)
       revoke v c held (Some j) marked = K.other s (waiter_added j v (parked_as v (RevokeWait j) (call_counted v s))) refl refl L
 
@@ -131,12 +131,12 @@ module _ (T : Setup) (gs : List (KeyName × KeyName)) (W : World) (R : IsReady T
         where
           by_mark : (m : Option ℕ) → c.mark ≡ m → Led (request_begun T i from j q m base)
           by_mark None unmarked =
-              let hand = request-hand T gs W R H A i from q j full in
-              leads-begun D p k granted q (Some (Remote from j)) [] false base (row-opened_for D q from j base c held unmarked hand.2 hand.3) below taken
+              let owes = request-owed T gs W R H A i from q j full in
+              leads-begun D p k granted q (Some (Remote from j)) [] false base (row-opened_for D q from j base c held unmarked owes.2 owes.3) below taken
           by_mark (Some m) marked = K.other base (with_up (Remote from j) m base) refl refl taken
 
       settles : (from j : ℕ) → s.inbox ≡ Some (from, RevokeDone j) → (o : Option JobRow) → job base j ≡ o → Led (settled_if_there T i j o base)
       settles from j full None none = taken
       settles from j full (Some x) some =
-          leads-settled D p k granted j (count_lowered j base) (row-lowered D base j x some (token-hand T gs W R H A i from j full)) below
+          leads-settled D p k granted j (count_lowered j base) (row-lowered D base j x some (token-owed T gs W R H A i from j full)) below
           (K.other base (count_lowered j base) refl refl taken)

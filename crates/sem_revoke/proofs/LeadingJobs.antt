@@ -24,8 +24,8 @@ use Rattle.sem_machine.specs.Machine.{side}
 use Rattle.sem_machine.specs.Revokes.{other_marker, adopted, request_or_adopt, spared, swept, woken, parent_left, left_parent, up_told, count_lowered}
 use Rattle.sem_machine.specs.Revokes.{closed_here, closed, finish, settled, opened, begin}
 use Rattle.sem_machine.proofs.Folds.{in_turn-keeps}
-use Rattle.sem_safety.specs.Seen.{AreDistinct}
-use Rattle.sem_revoke.specs.Views.{free_hand}
+use Rattle.sem_safety.specs.Observations.{AreDistinct}
+use Rattle.sem_revoke.specs.Views.{no_obligations}
 use Rattle.sem_revoke.specs.Scales.{requesting, names}
 use Rattle.sem_revoke.proofs.Chaining.{done-is, next-is, row-closed}
 use Rattle.sem_revoke.proofs.Leading.{Has, Below, IsKept, Off, off-steady, off-kept, has-kept, has-mapped, either-kept, linking-cut, below-steady}
@@ -98,7 +98,7 @@ module _ (C : Scene) (p k : KeyName) (granted : C.parent p k) where
   marked-away t n (d, held, marked) away = (away, d, sym (hold-away C t p away) ∙ held, n, marked)
 
   -- where a job of this kernel marks it, no unmarked one leads to the key
-  marked-off : (t : Side) (n : ℕ) → Row C free_hand t → IsMarked C t p n → Off p k (owner C p) Near Away t
+  marked-off : (t : Side) (n : ℕ) → Row C no_obligations t → IsMarked C t p n → Off p k (owner C p) Near Away t
   marked-off t n R (d, held, marked) = elim (cases_eq (owner C p) i) [
     | inl here ↦ inr (inl (
       here,
@@ -112,11 +112,11 @@ module _ (C : Scene) (p k : KeyName) (granted : C.parent p k) where
   ]
 
   -- what is above the key is its parent
-  under-off : (t : Side) (a n : ℕ) → Row C free_hand t → IsUnder C t k a n → Off p k (owner C p) Near Away t
+  under-off : (t : Side) (a n : ℕ) → Row C no_obligations t → IsUnder C t k a n → Off p k (owner C p) Near Away t
   under-off t a n R (q, above, at, marked) = marked-off t n R (subst (λ z. IsMarked C t z n) (C.one_parent q p k above granted) marked)
 
   -- A job that is closed.
-  module _ (x : JobRow) (t : Side) (open_ : job t x.id ≡ Some x) (done : x.count ≡ 0) (R : Row C free_hand t) (below : Below p k t) where
+  module _ (x : JobRow) (t : Side) (open_ : job t x.id ≡ Some x) (done : x.count ≡ 0) (R : Row C no_obligations t) (below : Below p k t) where
     -- what it does not sweep stays
     has-swept : (u : Side) (c : Capability) → Contains u.caps c → c.key ≡ k → (b : Bool) → x.keep ≡ b
         → (is_marked_by x.id c ≡ false) ⊎ ((b ≡ true) × (key_eq c.key x.root ≡ true)) → Has k (swept x u)
@@ -222,7 +222,7 @@ module _ (C : Scene) (p k : KeyName) (granted : C.parent p k) where
     ]
 
   -- The chain of those that are done.
-  leads-finish : (n : ℕ) (o : Option JobRow) (s : Side) → ((x : JobRow) → o ≡ Some x → (job s x.id ≡ Some x) × (x.count ≡ 0)) → Row C free_hand s → Below p k s
+  leads-finish : (n : ℕ) (o : Option JobRow) (s : Side) → ((x : JobRow) → o ≡ Some x → (job s x.id ≡ Some x) × (x.count ≡ 0)) → Row C no_obligations s → Below p k s
       → Leads s → Leads (finish C.setup i n o s)
   unfolding finish
   leads-finish zero o s is R below L = L
@@ -234,7 +234,7 @@ module _ (C : Scene) (p k : KeyName) (granted : C.parent p k) where
       (closed-steady (Below p k) (below-steady p k) C.setup i x s (found (λ (y : JobRow). y.id == x.id) s.jobs x at.0).0 below)
       (leads-closed x s at.0 at.1 R below L)
 
-  pub leads-settled : (j : ℕ) (s : Side) → Row C free_hand s → Below p k s → Leads s → Leads (settled C.setup i j s)
+  pub leads-settled : (j : ℕ) (s : Side) → Row C no_obligations s → Below p k s → Leads s → Leads (settled C.setup i j s)
   leads-settled j s R below L = leads-finish (length s.jobs) (if_done (job s j)) s (λ x done. done-is C s j x done) R below L
 
   -- A job that begins.
@@ -257,7 +257,7 @@ module _ (C : Scene) (p k : KeyName) (granted : C.parent p k) where
   leads-opened root up ws keep s (inr off) = inr (opened-steady (Off p k (owner C p) Near Away) steady C.setup i root up ws keep s off)
   leads-opened root up ws keep s (inl has) = inl (has-opened root up ws keep s has)
 
-  pub leads-begun : (root : KeyName) (up : Option Up) (ws : List ℕ) (keep : Bool) (s : Side) → Row C free_hand (opened C.setup i root up ws keep s) →
+  pub leads-begun : (root : KeyName) (up : Option Up) (ws : List ℕ) (keep : Bool) (s : Side) → Row C no_obligations (opened C.setup i root up ws keep s) →
       Below p k s
       → Leads s → Leads (begin C.setup i root up ws keep s)
   leads-begun root up ws keep s R below L =

@@ -34,7 +34,7 @@ use Rattle.sem_machine.specs.Upcalls.{given, given_kind, given_here, ask_decided
 use Rattle.sem_machine.specs.Handles.{obtain_ready, acknowledged, handled}
 use Rattle.sem_machine.specs.Resumes.{delegate_granted, delegate_resumed, resumed, resume_row}
 use Rattle.sem_machine.specs.Revokes.{revoke_begun, clear_begun, revoke_requested, revoke_done}
-use Rattle.sem_machine.specs.Ends.{ask_ended, call_ended, revoked_if_left, keys_of, ended_but_held, ended}
+use Rattle.sem_machine.specs.Ends.{ask_ended, call_ended, revoked_if_left, keys_of_vpe, ended_but_held, ended}
 use Rattle.sem_machine.specs.Machine.{local_step, next_call}
 use Rattle.sem_machine.proofs.Folds.{in_turn-keeps, option-keeps}
 use Rattle.sem_safety.proofs.Skeleton.{call_row-by, decided-by, handled-by}
@@ -76,7 +76,7 @@ module _ (T : Setup) (i : ℕ) (P : Side → Type 0) (other : (s t : Side) → t
       told (DelegateAsk parent object sel) = sends t (owner_of T parent) (DelegateNo parent (code_number code)) is
 
   -- the end of a VPE ends with what it holds
-  pub all-ended : (v : ℕ) (t : Side) → P (in_turn (revoked_if_left T i) (keys_of (ended_but_held T i v t) v) (ended_but_held T i v t)) → P (ended T i v t)
+  pub all-ended : (v : ℕ) (t : Side) → P (in_turn (revoked_if_left T i) (keys_of_vpe (ended_but_held T i v t) v) (ended_but_held T i v t)) → P (ended T i v t)
   unfolding ended
   all-ended v t is = is
 
@@ -114,7 +114,7 @@ module _ (T : Setup) (i : ℕ) (P : Side → Type 0) (other : (s t : Side) → t
   }
     where
       ends : (v : ℕ) (t : Side) → P t → P (ended T i v t)
-      ends v t here = all-ended v t (in_turn-keeps P (revoked_if_left T i) (λ k u now. rest-steady P S T i k u now) (keys_of (ended_but_held T i v t) v)
+      ends v t here = all-ended v t (in_turn-keeps P (revoked_if_left T i) (λ k u now. rest-steady P S T i k u now) (keys_of_vpe (ended_but_held T i v t) v)
           (ended_but_held T i v t) (ended-led v t here))
 
 module _ (T : Setup) (i : ℕ) (G : KeyName → KeyName → Type 0) (P : Side → Type 0) (K : IsKept G P) where

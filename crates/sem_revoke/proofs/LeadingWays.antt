@@ -24,7 +24,7 @@ use Rattle.sem_msg.specs.Setup.{Setup, IsSetup}
 use Rattle.sem_msg.specs.Lookups.{kernel_of, owner_of}
 use Rattle.sem_machine.specs.Sides.{Side, row, cap, parked, outbox, unparked, buried, send, parked_as, freed, with_inbox, pending_removed}
 use Rattle.sem_machine.specs.Asks.{asker, is_unawaited, promise_freed, call_refused, refusal_sent, ask_refused}
-use Rattle.sem_machine.specs.Ends.{ask_ended, call_ended, revoked_if_left, keys_of, ended}
+use Rattle.sem_machine.specs.Ends.{ask_ended, call_ended, revoked_if_left, keys_of_vpe, ended}
 use Rattle.sem_machine.specs.Machine.{World, side, link, local_step, input_of}
 use Rattle.sem_machine.specs.Schedules.{IsSchedule, world_after}
 use Rattle.sem_machine.specs.Journals.{grants}
@@ -102,7 +102,7 @@ module _ (T : Setup) (i w sel : ℕ) (p k : KeyName) (o : Object) where
       let sent : Orphaned last = subst (λ x. Orphaned (call_ended T x w (unparked w answered))) (sym same)
       (outbox-sent (unparked w answered) (owner_of T p) (Orphan p k)) in
       in_turn-keeps Orphaned (revoked_if_left T i) (λ r t here. rest-steady Orphaned (waits-steady (owner_of T p) (Orphan p k)) T i r t here)
-      (keys_of last w) last sent
+      (keys_of_vpe last w) last sent
 
 -- An entry. k was granted below p before, and p is held unmarked.
 module _ (T : Setup) (valid : IsSetup T) (J : List Entry) (runs : IsSchedule T J) (before : List Entry) (e : Entry) (later : List Entry) (parts : J ≡ before

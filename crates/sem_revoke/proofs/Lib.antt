@@ -43,6 +43,8 @@ pub mod Firsts
 pub mod Forests
 pub mod Alive
 pub mod Births
+pub mod KeptJobs
+pub mod KnownWaiters
 pub mod Quiet
 pub mod QuietRows
 pub mod ReadyCalls

@@ -48,7 +48,7 @@ use Rattle.sem_machine.specs.Handles.{obtain_ready, acknowledged, handled}
 use Rattle.sem_machine.specs.Resumes.{delegate_granted, delegate_resumed, resumed, resume_row}
 use Rattle.sem_machine.specs.Revokes.{count_lowered, settled, begin, waiter_added, waiter_left, revoke_begun, ready_freed, obtain_cancelled, request_begun}
 use Rattle.sem_machine.specs.Revokes.{revoke_requested, revoke_done, clear_begun}
-use Rattle.sem_machine.specs.Ends.{ask_ended, call_ended, revoked_if_left, keys_of, ended}
+use Rattle.sem_machine.specs.Ends.{ask_ended, call_ended, revoked_if_left, keys_of_vpe, ended}
 use Rattle.sem_machine.specs.Machine.{World, side, with_side, start, start_side, empty_side, root_added, vpe_added, vpe_fresh, next_call, local_step, input_of}
 use Rattle.sem_machine.specs.Machine.{after}
 use Rattle.sem_machine.specs.Schedules.{run, world_after}
@@ -262,7 +262,7 @@ ended-open T i v s is =
     (λ _. open-ask_refused T i Dead a t here)) asks (buried v s) dead in
     let none : parked (unparked v answered) v ≡ None = get_or-put_same None answered.parks v None in
     let left : Side = call_ended T (parked answered v) v (unparked v answered) in
-    in_turn-keeps IsOpen (revoked_if_left T i) (λ k t here. revoked-open T i k (cap t k) t here) (keys_of left v) left
+    in_turn-keeps IsOpen (revoked_if_left T i) (λ k t here. revoked-open T i k (cap t k) t here) (keys_of_vpe left v) left
     (call_ended-open T (parked answered v) v (unparked v answered) none (open-unparked answered v told))
 
 -- The rows.

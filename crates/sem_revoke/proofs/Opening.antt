@@ -1,4 +1,4 @@
--- A job begins: its region is marked, and the children of that come into the hand.
+-- A job begins: its region is marked, and the row owes requests to the children of that.
 use Rattle.std.proofs.Common.{◌≡◌, ◌⊎◌, ℕ, ◌<◌, Bool, is_none, true, false, ◌&&◌, List, [], ◌∷◌, Option, Some, None, refl, sym, ap, ◌∙◌, subst, inl, inr, arith}
 use Rattle.std.proofs.Common.{eq-eqb}
 use Rattle.std.specs.Prelude.{◌==◌, if◌then◌else◌}
@@ -22,13 +22,13 @@ use Rattle.sem_key.proofs.KeyTests.{key_eq-true, Contains-from_has_key, has_key-
 use Rattle.sem_key.proofs.Members.{Contains-nil, Contains-head, Contains-tail, Contains-filter, Contains-from_filter, Contains-flat_map, Contains-from_flat_map}
 use Rattle.sem_key.proofs.Members.{found}
 use Rattle.sem_key.proofs.Regions.{find-at, reached_cap, region-exact}
-use Rattle.sem_safety.specs.Seen.{Seen}
+use Rattle.sem_safety.specs.Observations.{ObservedSide}
 use Rattle.sem_key.proofs.KeySets.{with_key-from, key_set-has}
 use Rattle.sem_safety.proofs.Updates.{seen-mark_all, seen-job_opened}
 use Rattle.sem_safety.proofs.Lives.{at_side, lives}
 use Rattle.sem_safety.proofs.JobIds.{ids}
 use Rattle.sem_revoke.proofs.Closing.{changed-rises}
-use Rattle.sem_revoke.specs.Views.{Hand, IsAlone, IsCaused, free_hand, children}
+use Rattle.sem_revoke.specs.Views.{Obligations, IsAlone, IsCaused, no_obligations, children}
 use Rattle.sem_revoke.specs.Scales.{bit, names, requesting, naming, counting, noticing, straying}
 use Rattle.sem_revoke.proofs.Keeping.{Begins, keep_begun, fit-begun, cases_Option}
 use Rattle.sem_revoke.proofs.Scaling.{side-opened, pairs-head, pairs-tail}
@@ -87,7 +87,7 @@ rising-apart (k ∷ ks) rises = (
   rising-apart ks (pairs-tail (λ a b. packed a < packed b) k ks rises),
 )
 
-module _ (C : Scene) (h : Hand) (root : KeyName) (up : Option Up) (waiters : List ℕ) (keep : Bool) (alone_new : keep ≡ true →
+module _ (C : Scene) (h : Obligations) (root : KeyName) (up : Option Up) (waiters : List ℕ) (keep : Bool) (alone_new : keep ≡ true →
     up ≡ None) (caused_new : (keep ≡ false → C.lost root) × ((k : KeyName) → C.parent root k → C.lost k)) (s : Side) (R : Row C h s) where
   abbrev i : ℕ
   i = C.kernel
@@ -111,7 +111,7 @@ module _ (C : Scene) (h : Hand) (root : KeyName) (up : Option Up) (waiters : Lis
   marked = unbind_all ks (mark_all ks j opened)
 
   cap-marked : (k : KeyName) → cap marked k ≡ (if has_key ks k then option_map {T = Capability} (λ c. record c { mark = Some j }) (cap s k) else cap s k)
-  cap-marked k = ap (λ (z : Seen). z.cap k) (seen-mark_all ks j opened)
+  cap-marked k = ap (λ (z : ObservedSide). z.cap k) (seen-mark_all ks j opened)
 
   in-marked : (k : KeyName) (c : Capability) → has_key ks k ≡ true → cap s k ≡ Some c → cap marked k ≡ Some (with_mark j c)
   in-marked k c has held = cap-marked k ∙ (cond-true (has_key ks k) (option_map {T = Capability} (λ c. record c { mark = Some j }) (cap s k)) (cap s k) has
@@ -175,7 +175,7 @@ module _ (C : Scene) (h : Hand) (root : KeyName) (up : Option Up) (waiters : Lis
   ]
 
   job-marked : (n : ℕ) → job marked n ≡ option_or (job s n) (if j == n then Some new else None)
-  job-marked n = ap (λ (z : Seen). z.job n) (seen-job_opened root up waiters keep s)
+  job-marked n = ap (λ (z : ObservedSide). z.job n) (seen-job_opened root up waiters keep s)
 
   job-new : job marked j ≡ Some new
   job-new = job-marked j ∙ (ap (λ o. option_or o (if j == j then Some new else None)) fresh ∙ cond-true (j == j) (Some new) None (eq-eqb j j refl))
@@ -333,5 +333,5 @@ module _ (C : Scene) (h : Hand) (root : KeyName) (up : Option Up) (waiters : Lis
         ]
 
     -- the children are settled
-    pub row-opened : Row C free_hand (in_turn (request_or_adopt C.setup i j) kids marked)
+    pub row-opened : Row C no_obligations (in_turn (request_or_adopt C.setup i j) kids marked)
     row-opened = settled-all C j (in_turn (request_or_adopt C.setup i j) kids marked) (settle-all C j kids marked settling)

@@ -41,7 +41,7 @@ use Rattle.sem_machine.specs.Calls.{next_key, next_place, call_row}
 use Rattle.sem_machine.specs.Upcalls.{given, given_kind, given_here, ask_decided, upcall_row}
 use Rattle.sem_machine.specs.Handles.{obtain_ready, acknowledged, handled}
 use Rattle.sem_machine.specs.Resumes.{delegate_granted, delegate_resumed, resumed, resume_row}
-use Rattle.sem_machine.specs.Ends.{ask_ended, call_ended, keys_of, revoked_if_left, ended}
+use Rattle.sem_machine.specs.Ends.{ask_ended, call_ended, keys_of_vpe, revoked_if_left, ended}
 use Rattle.sem_machine.specs.Machine.{local_step, next_call}
 use Rattle.sem_machine.proofs.Folds.{in_turn-keeps, option-keeps}
 use Rattle.sem_safety.proofs.Skeleton.{call_row-by, decided-by, handled-by}
@@ -197,7 +197,7 @@ module _ (T : Setup) (i : ℕ) (G : KeyName → KeyName → Type 0) (R : KeyName
       in_turn-keeps Parented (ask_ended T i) (λ a t here. cond_both (is_unawaited T i t a) t (ask_refused T i Dead a t) Parented (λ _. here)
       (λ _. refused-parented Dead a t here)) asks (buried v s) (vpes-parented s (buried v s).vpes is) in
       let last : Side = call_ended T (parked answered v) v (unparked v answered) in
-      in_turn-keeps Parented (revoked_if_left T i) (λ k t here. rest-steady Parented steady T i k t here) (keys_of last v) last
+      in_turn-keeps Parented (revoked_if_left T i) (λ k t here. rest-steady Parented steady T i k t here) (keys_of_vpe last v) last
       (owes (parked answered v) (unparked v answered) (parked-parented answered v None (λ k p o sel no'. absurd cc) told))
     where
       owes : (p : Option Parked) (t : Side) → Parented t → Parented (call_ended T p v t)

@@ -40,7 +40,7 @@ use Rattle.sem_machine.specs.Calls.{next_key, next_place, call_row}
 use Rattle.sem_machine.specs.Revokes.{other_marker, adopted, request_or_adopt, root_spared, all_freed, swept, woken, parent_left, up_told, left_parent}
 use Rattle.sem_machine.specs.Revokes.{closed_here, closed, finish, settled, opened, begin, revoke_begun, clear_begun, ready_freed, request_begun}
 use Rattle.sem_machine.specs.Revokes.{revoke_requested, revoke_done, count_lowered}
-use Rattle.sem_machine.specs.Ends.{ask_ended, call_ended, revoked_if_left, keys_of, ended}
+use Rattle.sem_machine.specs.Ends.{ask_ended, call_ended, revoked_if_left, keys_of_vpe, ended}
 use Rattle.sem_machine.specs.Upcalls.{given, given_kind, given_here, ask_decided, upcall_row}
 use Rattle.sem_machine.specs.Handles.{obtain_ready, acknowledged, handled}
 use Rattle.sem_machine.specs.Resumes.{delegate_granted, delegate_resumed, resumed, resume_row}
@@ -184,7 +184,7 @@ module _ (v : ℕ) (B : Type 0) (n : ℕ) where
       in_turn-keeps Steady (ask_ended T i) (λ a s is. cond_both _ s (ask_refused T i Dead a s) Steady (λ _. is) (λ _. steady-ask_refused T i Dead a s is))
       (row t u).asks (buried u t) buried' in
       let last : Side = call_ended T (parked answered u) u (unparked u answered) in
-      in_turn-keeps Steady (revoked_if_left T i) (λ k s is. left k s is) (keys_of last u) last
+      in_turn-keeps Steady (revoked_if_left T i) (λ k s is. left k s is) (keys_of_vpe last u) last
       (owes (parked answered u) (unparked u answered) (steady-unparked answered told u none))
     where
       owes : (p : Option Parked) (s : Side) → Steady s → Steady (call_ended T p u s)

@@ -18,7 +18,7 @@ use Rattle.sem_machine.specs.Sides.{Side, no_side}
 use Rattle.sem_machine.specs.Machine.{World, side}
 use Rattle.sem_machine.specs.Schedules.{IsSchedule, world_after}
 use Rattle.sem_safety.proofs.AskWeights
-use Rattle.sem_safety.proofs.AskWeights.{here, waits}
+use Rattle.sem_safety.proofs.AskWeights.{here}
 use Rattle.sem_safety.proofs.AskWorlds
 use Rattle.sem_revoke.specs.Exchanges.{Exchange, waiter, of_ask, of_message, of_row, of_rows, exchanging, tokens}
 use Rattle.sem_revoke.specs.Exchanges.Exchange.{Obtaining, Delegating}

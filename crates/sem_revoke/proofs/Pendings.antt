@@ -39,9 +39,9 @@ use Rattle.sem_machine.specs.Resumes.{delegate_granted, delegate_resumed, resume
 use Rattle.sem_machine.specs.Machine.{local_step, next_call}
 use Rattle.sem_msg.specs.declared.event.Act.{Act}
 use Rattle.sem_msg.specs.declared.event.Act.TheVariants.{Call as Calls, Fetch, Handle, Upcall, Resume, Flush, Kill}
-use Rattle.sem_machine.specs.Ends.{ask_ended, call_ended, keys_of, revoked_if_left, ended}
+use Rattle.sem_machine.specs.Ends.{ask_ended, call_ended, keys_of_vpe, revoked_if_left, ended}
 use Rattle.sem_machine.proofs.Folds.{in_turn-keeps, in_turn-keeps_each, option-keeps}
-use Rattle.sem_safety.specs.Seen.{Seen}
+use Rattle.sem_safety.specs.Observations.{ObservedSide}
 use Rattle.sem_safety.proofs.Updates.{seen-send}
 use Rattle.sem_safety.proofs.Skeleton.{call_row-by, decided-by, handled-by}
 use Rattle.sem_revoke.proofs.Steady.{IsSteady, rest-steady, revoked-steady, cleared-steady, requested-steady, done-steady, left_job-steady}
@@ -50,16 +50,16 @@ use Rattle.sem_revoke.proofs.Waits.{parked-other}
 
 -- what waits to be sent goes on to wait when more is sent, and what is sent waits
 pub outbox-sent : (t : Side) (j : ℕ) (m : Message) → Contains (outbox (send j m t) j) m
-outbox-sent t j m = subst (λ xs. Contains xs m) (sym (ap (λ (z : Seen). z.outbox j) (seen-send j m t)
+outbox-sent t j m = subst (λ xs. Contains xs m) (sym (ap (λ (z : ObservedSide). z.outbox j) (seen-send j m t)
     ∙ cond-true (j == j) (outbox t j ++ m ∷ []) (outbox t j) (eq-eqb j j refl))) (Contains-append_right (outbox t j) (m ∷ []) m (Contains-head m []))
 
 pub outbox-more : (t : Side) (j k : ℕ) (m q : Message) → Contains (outbox t k) q → Contains (outbox (send j m t) k) q
 outbox-more t j k m q among = elim (cases_Bool (k == j)) [
   | inl same ↦
       let is : k ≡ j = eqb-true k j same in
-      subst (λ xs. Contains xs q) (sym (ap (λ (z : Seen). z.outbox k) (seen-send j m t) ∙ cond-true (k == j) (outbox t j ++ m ∷ []) (outbox t k) same))
+      subst (λ xs. Contains xs q) (sym (ap (λ (z : ObservedSide). z.outbox k) (seen-send j m t) ∙ cond-true (k == j) (outbox t j ++ m ∷ []) (outbox t k) same))
       (Contains-append_left (outbox t j) (m ∷ []) q (subst (λ n. Contains (outbox t n) q) is among))
-  | inr other ↦ subst (λ xs. Contains xs q) (sym (ap (λ (z : Seen). z.outbox k) (seen-send j m t)
+  | inr other ↦ subst (λ xs. Contains xs q) (sym (ap (λ (z : ObservedSide). z.outbox k) (seen-send j m t)
       ∙ cond-false (k == j) (outbox t j ++ m ∷ []) (outbox t k) other)) among
 ]
 
@@ -117,7 +117,7 @@ module _ (T : Setup) (k0 : KeyName) (was : Option Pending) where
       in_turn-keeps Prepared (ask_ended T i) (λ a t here. cond_both (is_unawaited T i t a) t (ask_refused T i Dead a t) Prepared (λ _. here)
       (λ _. refused-prepared i Dead a t here)) asks (buried v s) is in
       let last : Side = call_ended T (parked answered v) v (unparked v answered) in
-      in_turn-keeps Prepared (revoked_if_left T i) (λ k t here. rest-steady Prepared steady T i k t here) (keys_of last v) last
+      in_turn-keeps Prepared (revoked_if_left T i) (λ k t here. rest-steady Prepared steady T i k t here) (keys_of_vpe last v) last
       (owes (parked answered v) (unparked v answered) told)
     where
       owes : (p : Option Parked) (t : Side) → Prepared t → Prepared (call_ended T p v t)
@@ -349,7 +349,7 @@ module _ (T : Setup) (k0 : KeyName) (was : Option Pending) where
       (outbox-sent (unparked w answered) (owner_of T k0) (Ack k0 false)) in
       in_turn-keeps (λ (t : Side). Contains (outbox t (owner_of T k0)) (Ack k0 false)) (revoked_if_left T i)
       (λ k t here. rest-steady (λ (u : Side). Contains (outbox u (owner_of T k0)) (Ack k0 false)) (waits-steady (owner_of T k0) (Ack k0 false)) T i k t
-      here) (keys_of last w) last acks
+      here) (keys_of_vpe last w) last acks
     where
       other : (a : Ask) (t : Side) → (asker a ≡ w → ⊥) → parked t w ≡ Some (DelegateReady q k0) → parked (ask_ended T i a t) w ≡ Some (DelegateReady q k0)
       other a t away here = cond_both (is_unawaited T i t a) t (ask_refused T i Dead a t) (λ (u : Side). parked u w ≡ Some (DelegateReady q k0)) (λ _. here)

@@ -1,7 +1,7 @@
 -- Who changes the parked call of a VPE: the VPE itself, an ask or a message of it, or a job for which it waits. Where nothing of these is about, the call stays
 -- as it is; and a pending delegation stays until it is acknowledged.
 use Rattle.sem_msg.specs.ParkedStates.{is_ready_with}
-use Rattle.std.proofs.Common.{◌≡◌, ◌⊎◌, ℕ, zero, suc, ◌+◌, ◌-◌, Bool, true, false, not, ◌&&◌, List, [], ◌∷◌, ◌++◌, drop, filter, find, length, get_or, nat_lt}
+use Rattle.std.proofs.Common.{◌≡◌, ◌⊎◌, ℕ, ◌+◌, true, false, not, ◌&&◌, List, [], ◌∷◌, ◌++◌, drop, filter, find, length, get_or, nat_lt}
 use Rattle.std.proofs.Common.{Option, Some, None, refl, sym, ap, ◌∙◌, subst, inl, inr}
 use Rattle.std.specs.Prelude.{◌==◌, if◌then◌else◌}
 use Rattle.std.specs.List.{Contains}
@@ -9,10 +9,9 @@ use Rattle.std.proofs.lemmas.Bool.{cases_Bool, cases_eq, cond_both, cond-true, c
 use Rattle.std.proofs.lemmas.List.Elements.{Contains-append_cases}
 use Rattle.sem_key.specs.declared.object.Object.{Object}
 use Rattle.sem_key.specs.KeyName.{KeyName, key_eq}
-use Rattle.sem_key.specs.Lists.{change, in_turn, put}
+use Rattle.sem_key.specs.Lists.{in_turn, put}
 use Rattle.sem_key.specs.Capability.{Capability}
-use Rattle.sem_key.specs.CapList.{marked_by, fresh}
-use Rattle.sem_key.specs.Region.{region, children_of}
+use Rattle.sem_key.specs.CapList.{fresh}
 use Rattle.sem_key.proofs.KeyTests.{key_eq-true}
 use Rattle.sem_key.proofs.Members.{Contains-nil, Contains-cons_cases, Contains-from_filter, Contains-from_map, Contains-tail}
 use Rattle.sem_key.proofs.Puts.{get_or-put_same, get_or-put_other}
@@ -21,7 +20,7 @@ use Rattle.sem_msg.specs.declared.code.Code.TheVariants.{Ok as OkCode, Dead}
 use Rattle.sem_msg.specs.Codes.{code_number}
 use Rattle.sem_msg.specs.declared.limits.TheConstants.{ASKS}
 use Rattle.sem_msg.specs.declared.message.Message.{Message}
-use Rattle.sem_msg.specs.declared.message.Message.TheVariants.{ObtainNo, DelegateNo, Ack, Orphan, RevokeReq, RevokeDone, Unlink}
+use Rattle.sem_msg.specs.declared.message.Message.TheVariants.{ObtainNo, DelegateNo, Ack, Orphan}
 use Rattle.sem_msg.specs.declared.state.Ask.{Ask}
 use Rattle.sem_msg.specs.declared.state.Ask.TheVariants.{Obtain as ObtainAsk, Delegate as DelegateAsk}
 use Rattle.sem_msg.specs.declared.state.Parked.{Parked}
@@ -29,25 +28,21 @@ use Rattle.sem_msg.specs.declared.state.Parked.TheVariants.{ObtainWait, ObtainRe
 use Rattle.sem_msg.specs.declared.state.Pending.{Pending}
 use Rattle.sem_msg.specs.declared.state.Slot.{Slot}
 use Rattle.sem_msg.specs.declared.state.Slot.TheVariants.{Free, Held}
-use Rattle.sem_msg.specs.declared.state.Up.{Up}
-use Rattle.sem_msg.specs.declared.state.Up.TheVariants.{Local, Remote}
 use Rattle.sem_msg.specs.Rows.{JobRow, VpeRow, no_vpe}
-use Rattle.sem_msg.specs.JobRows.{if_done, next_done, with_number, without_number}
-use Rattle.sem_msg.specs.VpeRows
+use Rattle.sem_msg.specs.JobRows.{without_number}
 use Rattle.sem_msg.specs.Setup.{Setup}
-use Rattle.sem_msg.specs.Lookups.{owner_of, place_owner, is_local, kernel_of}
-use Rattle.sem_machine.specs.Sides.{Side, row, cap, job, parked, pending, with_slot, ready, parked_as, unparked, asked, ask_taken, buried, drawn, installed}
-use Rattle.sem_machine.specs.Sides.{unlinked, mark_all, unbind_all, pending_added, pending_removed, job_opened, job_changed, job_removed, send, cap_added}
+use Rattle.sem_msg.specs.Lookups.{owner_of, place_owner, kernel_of}
+use Rattle.sem_machine.specs.Sides.{Side, row, cap, parked, pending, with_slot, ready, parked_as, unparked, asked, ask_taken, buried, drawn, installed}
+use Rattle.sem_machine.specs.Sides.{pending_added, pending_removed, send, cap_added}
 use Rattle.sem_machine.specs.Asks.{asker, is_unawaited, promise_freed, call_refused, refusal_sent, ask_refused}
-use Rattle.sem_machine.specs.Revokes.{count_raised, count_lowered, with_up, other_marker, adopted, request_or_adopt, root_spared, selectors_freed, all_freed}
-use Rattle.sem_machine.specs.Revokes.{swept, woken, parent_left, up_told, left_parent, closed_here, closed, finish, settled, opened, begin, waiter_left}
-use Rattle.sem_machine.specs.Revokes.{revoke_begun, clear_begun, ready_freed, obtain_cancelled, request_begun, revoke_requested, revoke_done}
-use Rattle.sem_machine.specs.Ends.{ask_ended, call_ended, revoked_if_left, keys_of, ended}
+use Rattle.sem_machine.specs.Revokes.{begin, waiter_left}
+use Rattle.sem_machine.specs.Revokes.{revoke_begun, clear_begun, revoke_requested, revoke_done}
+use Rattle.sem_machine.specs.Ends.{ask_ended, call_ended, revoked_if_left, keys_of_vpe, ended}
 use Rattle.sem_machine.proofs.Folds.{in_turn-keeps, in_turn-keeps_each, option-keeps}
-use Rattle.sem_safety.proofs.JobIds.{done-among, next-among}
 use Rattle.sem_safety.proofs.AskWeights.{waits}
-use Rattle.sem_revoke.proofs.Rowing.{settled_if_there, revoked_if_there}
+use Rattle.sem_revoke.proofs.Rowing.{revoked_if_there}
 use Rattle.sem_revoke.proofs.Waits.{parked-here, parked-other}
+use Rattle.sem_revoke.proofs.KnownWaiters.{KnowsWaiters, begin-known, one-waiter, revoked-known, requested-known, done-known}
 
 module _ (v : ℕ) (k0 : KeyName) (Touched : Type 0) (q : Option Parked) (d : Option Pending) where
   abbrev pub IsLoud : Option Parked → Type 0
@@ -189,122 +184,22 @@ module _ (v : ℕ) (k0 : KeyName) (Touched : Type 0) (q : Option Parked) (d : Op
   pub quiet-jobs : (t : Side) → Quiet t → (xs : List JobRow) → ((y : JobRow) → Contains xs y → Contains y.waiters v → Touched) → Quiet (record t { jobs = xs })
   quiet-jobs t Q xs touched = record { park = Q.park; life = Q.life; waiters = touched; asks = Q.asks; pend = Q.pend }
 
-  -- a change of jobs after which nobody more waits, but for who may touch
-  pub quiet-changed : (t : Side) → Quiet t → (j : ℕ) (f : JobRow → JobRow) → ((x : JobRow) → Contains (f x).waiters v → Contains x.waiters v ⊎ Touched) →
-      Quiet (job_changed j f t)
-  quiet-changed t Q j f fewer = quiet-jobs t Q (change (λ x. x.id == j) f t.jobs) (λ y among waits'.
-      let x = Contains-from_map (λ (x : JobRow). if x.id == j then f x else x) t.jobs y among in
-      cond_both (x.0.id == j) (f x.0) x.0 (λ (z : JobRow). Contains z.waiters v → Touched)
-      (λ _ w. elim (fewer x.0 w) [ inl before ↦ Q.waiters x.0 x.1 before | inr touched ↦ touched ])
-      (λ _ w. Q.waiters x.0 x.1 w)
-      (subst (λ (z : JobRow). Contains z.waiters v) (sym x.2) waits'))
-
-  quiet-raised : (t : Side) → Quiet t → (j : ℕ) → Quiet (count_raised j t)
-  quiet-raised t Q j = quiet-changed t Q j (λ x. record x { count = x.count + 1 }) (λ x w. inl w)
-
-  quiet-lowered : (t : Side) → Quiet t → (j : ℕ) → Quiet (count_lowered j t)
-  quiet-lowered t Q j = quiet-changed t Q j (λ x. record x { count = x.count - 1 }) (λ x w. inl w)
-
-  quiet-up : (t : Side) → Quiet t → (up : Up) (m : ℕ) → Quiet (with_up up m t)
-  quiet-up t Q up m = quiet-changed t Q m (λ x. record x { up = Some up; keep = false }) (λ x w. inl w)
-
   pub quiet-ready : (t : Side) → Quiet t → (number w : ℕ) → (w ≡ v → Touched) → Quiet (ready number w t)
   quiet-ready t Q number w touched = quiet-park t Q w (Some (Ready number)) (λ same. (refl, touched same))
 
-  -- A job is closed.
-
-  quiet-freed_rows : (cs : List Capability) (t : Side) → Quiet t → Quiet (record t { vpes = all_freed cs t.vpes })
-  quiet-freed_rows cs t Q = in_turn-keeps (λ rows. Quiet (record t { vpes = rows })) (λ c rows. VpeRows.freed c.key.vpe c.selector rows)
-      (λ c rows is. quiet-slot (record t { vpes = rows }) is c.key.vpe c.selector Free) cs t.vpes Q
-
-  quiet-swept : (x : JobRow) (t : Side) → Quiet t → Quiet (swept x t)
-  quiet-swept x t Q =
-      let spared : Side = root_spared x t in
-      let free : Quiet (selectors_freed x.id spared) = quiet-freed_rows (marked_by x.id spared.caps) spared (quiet-caps spared.caps t Q) in
-      quiet-caps (swept x t).caps (selectors_freed x.id spared) free
-
-  quiet-woken : (vs : List ℕ) (t : Side) → (Contains vs v → Touched) → Quiet t → Quiet (woken vs t)
-  quiet-woken vs t touched Q = in_turn-keeps_each (λ ps. Quiet (record t { parks = ps })) (λ w ps. put None ps w (Some (Ready (code_number OkCode)))) vs
-      (λ w among ps is. quiet-park (record t { parks = ps }) is w (Some (Ready (code_number OkCode)))
-      (λ same. (refl, touched (subst (Contains vs) same among)))) t.parks Q
-
-  -- the job is given by its parts
-  quiet-left : (T : Setup) (i id count : ℕ) (root : KeyName) (up : Option Up) (ws : List ℕ) (keep : Bool) (o : Option KeyName) (t : Side) → Quiet t →
-      Quiet (parent_left T i (record { id = id; root = root; up = up; waiters = ws; count = count; keep = keep }) o t)
-  quiet-left T i id count root up ws keep None t Q = Q
-  quiet-left T i id count root None ws keep (Some p) t Q = cond_both (is_local T i p) _ _ Quiet (λ _. quiet-caps (unlinked p root t).caps t Q)
-      (λ _. quiet-send (owner_of T p) (Unlink p root) t Q)
-  quiet-left T i id count root (Some (Local j)) ws keep (Some p) t Q = cond_both (is_local T i p) _ _ Quiet (λ _. quiet-caps (unlinked p root t).caps t Q)
-      (λ _. quiet-send (owner_of T p) (Unlink p root) t Q)
-  quiet-left T i id count root (Some (Remote kernel j)) ws keep (Some p) t Q =
-      cond_both (is_local T i p) _ _ Quiet (λ _. quiet-caps (unlinked p root t).caps t Q) (λ _. Q)
-
-  quiet-told : (up : Option Up) (t : Side) → Quiet t → Quiet (up_told up t)
-  quiet-told None t Q = Q
-  quiet-told (Some (Local j)) t Q = quiet-lowered t Q j
-  quiet-told (Some (Remote kernel j)) t Q = quiet-send kernel (RevokeDone j) t Q
-
-  quiet-closed : (T : Setup) (i : ℕ) (x : JobRow) (t : Side) → Contains t.jobs x → Quiet t → Quiet (closed T i x t)
-  unfolding closed_here
-  quiet-closed T i x t among Q =
-      let gone : Side = job_removed x.id t in
-      let one : Quiet gone = quiet-jobs t Q gone.jobs (λ y there. Q.waiters y (Contains-from_filter (λ (z : JobRow). not (z.id == x.id)) t.jobs y there).0) in
-      quiet-told x.up (closed_here T i x gone) (quiet-left T i x.id x.count x.root x.up x.waiters x.keep (left_parent gone x) (woken x.waiters (swept x gone))
-      (quiet-woken x.waiters (swept x gone) (Q.waiters x among) (quiet-swept x gone one)))
-
-  quiet-finish : (T : Setup) (i n : ℕ) (o : Option JobRow) (t : Side) → ((x : JobRow) → o ≡ Some x → Contains t.jobs x) → Quiet t → Quiet (finish T i n o t)
-  unfolding finish
-  quiet-finish T i zero o t among Q = Q
-  quiet-finish T i (suc n) None t among Q = Q
-  quiet-finish T i (suc n) (Some x) t among Q =
-      let t2 : Side = closed T i x t in
-      quiet-finish T i n (next_done x.up t2.jobs) t2 (λ y next. next-among x.up t2 y next) (quiet-closed T i x t (among x refl) Q)
-
-  quiet-settled : (T : Setup) (i j : ℕ) (t : Side) → Quiet t → Quiet (settled T i j t)
-  quiet-settled T i j t Q = quiet-finish T i (length t.jobs) (if_done (job t j)) t (λ x done. done-among t j x done) Q
-
   -- A job begins.
 
-  quiet-adopted : (j : ℕ) (o : Option ℕ) (t : Side) → Quiet t → Quiet (adopted j o t)
-  quiet-adopted j None t Q = Q
-  quiet-adopted j (Some m) t Q = quiet-raised (with_up (Local j) m t) (quiet-up t Q (Local j) m) j
-
-  quiet-asks_for : (T : Setup) (i j : ℕ) (k : KeyName) (t : Side) → Quiet t → Quiet (request_or_adopt T i j k t)
-  quiet-asks_for T i j k t Q = cond_both (is_local T i k) _ _ Quiet (λ _. quiet-adopted j (other_marker j (cap t k)) t Q)
-      (λ _. quiet-raised (send (owner_of T k) (RevokeReq k j) t) (quiet-send (owner_of T k) (RevokeReq k j) t Q) j)
-
-  pub quiet-begin : (T : Setup) (i : ℕ) (root : KeyName) (up : Option Up) (ws : List ℕ) (keep : Bool) (t : Side) → (Contains ws v → Touched) → Quiet t →
-      Quiet (begin T i root up ws keep t)
-  unfolding opened
-  quiet-begin T i root up ws keep t touched Q =
-      let j : ℕ = t.next_job in
-      let ks : List KeyName = region t.caps root in
-      let new : JobRow = record { id = j; root = root; up = up; waiters = ws; count = 0; keep = keep } in
-      let one : Quiet (job_opened root up ws keep t) = record {
-        park = Q.park;
-        life = Q.life;
-        waiters = λ y among w. elim (Contains-append_cases t.jobs (new ∷ []) y among) [
-          | inl before ↦ Q.waiters y before w
-          | inr now ↦ elim (Contains-cons_cases new [] y now) [
-            | inl same ↦ touched (subst (λ (z : JobRow). Contains z.waiters v) (sym same) w)
-            | inr none ↦ absurd (Contains-nil y none)
-          ]
-        ];
-        asks = Q.asks;
-        pend = Q.pend;
-      } in
-      let marked : Quiet (unbind_all ks (mark_all ks j (job_opened root up ws keep t))) = record {
-        park = one.park;
-        life = one.life;
-        waiters = one.waiters;
-        asks = one.asks;
-        pend = one.pend;
-      } in
-      quiet-settled T i j (opened T i root up ws keep t) (in_turn-keeps Quiet (request_or_adopt T i j) (λ k u is. quiet-asks_for T i j k u is)
-      (children_of t.caps ks) (unbind_all ks (mark_all ks j (job_opened root up ws keep t))) marked)
-
-  one-waiter : (w : ℕ) → (w ≡ v → Touched) → Contains (w ∷ []) v → Touched
-  one-waiter w touched among = elim (Contains-cons_cases w [] v among) [ inl same ↦ touched same | inr none ↦ absurd (Contains-nil v none) ]
+  abbrev knows : KnowsWaiters v Touched Quiet
+  knows = record {
+    waits = λ t Q. Q.waiters;
+    jobs = quiet-jobs;
+    numbers = λ t Q number. record { park = Q.park; life = Q.life; waiters = Q.waiters; asks = Q.asks; pend = Q.pend };
+    wakes = λ t Q w touched. quiet-ready t Q (code_number OkCode) w touched;
+    slots = quiet-slot;
+    caps = λ t Q cs. quiet-caps cs t Q;
+    endpoints = λ t Q es. record { park = Q.park; life = Q.life; waiters = Q.waiters; asks = Q.asks; pend = Q.pend };
+    sends = λ t Q j m. quiet-send j m t Q;
+  }
 
   -- Refusals.
 
@@ -341,7 +236,7 @@ module _ (v : ℕ) (k0 : KeyName) (Touched : Type 0) (q : Option Parked) (d : Op
       in_turn-keeps_each Quiet (ask_ended T i) (row t u).asks (λ a among s is. cond_both (is_unawaited T i s a) s (ask_refused T i Dead a s) Quiet (λ _. is)
       (λ _. quiet-ask_refused T i Dead a s (Q.asks u a among) is)) (buried u t) buried' in
       let last : Side = call_ended T (parked answered u) u (unparked u answered) in
-      in_turn-keeps Quiet (revoked_if_left T i) (λ k s is. left k s is) (keys_of last u) last
+      in_turn-keeps Quiet (revoked_if_left T i) (λ k s is. left k s is) (keys_of_vpe last u) last
       (owes (parked answered u) (unparked u answered) (quiet-park answered told u None (λ same. (refl, touched same))))
     where
       owes : (p : Option Parked) (s : Side) → Quiet s → Quiet (call_ended T p u s)
@@ -363,53 +258,22 @@ module _ (v : ℕ) (k0 : KeyName) (Touched : Type 0) (q : Option Parked) (d : Op
           by_cap : (o : Option Capability) → Quiet (revoked_if_there T i k o s)
           by_cap None = is
           by_cap (Some c) = option-keeps Quiet (λ (m : ℕ). s) c.mark (begin T i k None [] false s) (λ m marked. is)
-              (quiet-begin T i k None [] false s (λ none. absurd (Contains-nil v none)) is)
+              (begin-known v Touched Quiet knows T i k None [] false s (λ none. absurd (Contains-nil v none)) is)
 
   -- A revoke, a clear, and what comes from other kernels.
 
   pub quiet-revoked : (T : Setup) (i u : ℕ) (k : KeyName) (m : Option ℕ) (t : Side) → (u ≡ v → ⊥) → Quiet t → Quiet (revoke_begun T i u k m t)
-  quiet-revoked T i u k None t other Q = quiet-begin T i k None (u ∷ []) false (parked_as u (RevokeWait t.next_job) t)
-      (one-waiter u (λ same. absurd (other same))) (quiet-park t Q u (Some (RevokeWait t.next_job)) (λ same. absurd (other same)))
-  quiet-revoked T i u k (Some j) t other Q =
-      quiet-changed (parked_as u (RevokeWait j) t) (quiet-park t Q u (Some (RevokeWait j)) (λ same. absurd (other same))) j
-      (λ x. record x { waiters = with_number x.waiters u })
-      (λ x w. elim (Contains-append_cases (filter (λ n. nat_lt n u) x.waiters) (u ∷ filter (λ n. nat_lt u n) x.waiters) v w) [
-        | inl before ↦ inl (Contains-from_filter (λ n. nat_lt n u) x.waiters v before).0
-        | inr rest ↦ elim (Contains-cons_cases u (filter (λ n. nat_lt u n) x.waiters) v rest) [
-          | inl same ↦ absurd (other same)
-          | inr behind ↦ inl (Contains-from_filter (λ n. nat_lt u n) x.waiters v behind).0
-        ]
-      ])
+  quiet-revoked T i u k m t other Q = revoked-known v Touched Quiet knows T i u k m t (λ same. absurd (other same))
+      (λ j. quiet-park t Q u (Some (RevokeWait j)) (λ same. absurd (other same)))
 
   pub quiet-cleared : (T : Setup) (i u : ℕ) (k : KeyName) (t : Side) → (u ≡ v → ⊥) → Quiet t → Quiet (clear_begun T i u k t)
-  quiet-cleared T i u k t other Q = quiet-begin T i k None (u ∷ []) true (parked_as u (RevokeWait t.next_job) t) (one-waiter u (λ same. absurd (other same)))
-      (quiet-park t Q u (Some (RevokeWait t.next_job)) (λ same. absurd (other same)))
+  quiet-cleared T i u k t other Q = begin-known v Touched Quiet knows T i k None (u ∷ []) true (parked_as u (RevokeWait t.next_job) t)
+      (one-waiter v Touched Quiet knows u (λ same. absurd (other same))) (quiet-park t Q u (Some (RevokeWait t.next_job)) (λ same. absurd (other same)))
 
   pub quiet-requested : (T : Setup) (i from j : ℕ) (k : KeyName) (o : Option Capability) (t : Side) →
       (is_ready_with k (parked t k.vpe) ≡ true → k.vpe ≡ v → Touched) → Quiet t → Quiet (revoke_requested T i from j k o t)
-  quiet-requested T i from j k None t touched Q =
-      quiet-send from (RevokeDone j) (obtain_cancelled k t)
-      (cond_both (is_ready_with k (parked t k.vpe)) _ t Quiet (λ is. quiet-park (ready_freed (parked t k.vpe) k.vpe t) (free (parked t k.vpe)) k.vpe
-      (Some ObtainCancelled) (λ same. (refl, touched is same))) (λ _. Q))
-    where
-      free : (p : Option Parked) → Quiet (ready_freed p k.vpe t)
-      free None = Q
-      free (Some (ObtainReady key parent object sel)) = quiet-slot t Q k.vpe sel Free
-      free (Some (ObtainWait number sel)) = Q
-      free (Some ObtainCancelled) = Q
-      free (Some (DelegateWait parent)) = Q
-      free (Some (DelegateReady parent key)) = Q
-      free (Some (RevokeWait n)) = Q
-      free (Some (Ready code)) = Q
-  quiet-requested T i from j k (Some c) t touched Q = by_mark c.mark
-    where
-      by_mark : (m : Option ℕ) → Quiet (request_begun T i from j k m t)
-      by_mark None = quiet-begin T i k (Some (Remote from j)) [] false t (λ none. absurd (Contains-nil v none)) Q
-      by_mark (Some m) = quiet-up t Q (Remote from j) m
+  quiet-requested T i from j k o t touched Q = requested-known v Touched Quiet knows T i from j k o t
+      (λ is u U. quiet-park u U k.vpe (Some ObtainCancelled) (λ same. (refl, touched is same))) Q
 
   pub quiet-done : (T : Setup) (i j : ℕ) (t : Side) → Quiet t → Quiet (revoke_done T i j t)
-  quiet-done T i j t Q = by_job (job t j)
-    where
-      by_job : (o : Option JobRow) → Quiet (settled_if_there T i j o t)
-      by_job None = Q
-      by_job (Some x) = quiet-settled T i j (count_lowered j t) (quiet-lowered t Q j)
+  quiet-done = done-known v Touched Quiet knows

@@ -54,7 +54,7 @@ use Rattle.sem_safety.proofs.SideLayers.{run-kept}
 use Rattle.sem_safety.proofs.SoundEndpoints.{IsSoundSide, sound}
 use Rattle.sem_safety.proofs.SoundWorlds.{start-sound}
 use Rattle.sem_safety.proofs.Updates.{seen-cap_added}
-use Rattle.sem_safety.specs.Seen.{Seen}
+use Rattle.sem_safety.specs.Observations.{ObservedSide}
 use Rattle.sem_safety.proofs.AskWeights.{free, here, of_message, of_ask, of_asks, of_inbox, of_job, of_side}
 use Rattle.sem_safety.proofs.AskWorlds.{of_world, world-side, one-exchange}
 use Rattle.sem_revoke.proofs.Quiet.{Quiet, quiet-row, quiet-ended}
@@ -110,7 +110,7 @@ ask-weighs v s u a among who =
 -- what is installed is held
 pub installed-held : (k : KeyName) (parent : Option KeyName) (sel : ℕ) (object : Object) (t : Side) →
     cap (installed k parent sel object t) k ≡ Some (fresh k parent sel object)
-installed-held k parent sel object t = ap (λ (z : Seen). z.cap k) (seen-cap_added (fresh k parent sel object) t)
+installed-held k parent sel object t = ap (λ (z : ObservedSide). z.cap k) (seen-cap_added (fresh k parent sel object) t)
     ∙ cond-true (key_eq k k) (Some (fresh k parent sel object)) (cap t k) (key_eq-same k)
 
 -- An event.

@@ -48,7 +48,7 @@ use Rattle.sem_machine.specs.Steps.{Step, unshown, answer}
 use Rattle.sem_machine.specs.Asks.{asker, target_vpe, is_unawaited, waits_for, ask_refused, call_refused, promise_freed, refusal_sent}
 use Rattle.sem_key.specs.Region.{has_key, region, children_of}
 use Rattle.sem_machine.specs.Revokes.{begin, waiter_added, revoke_begun, request_or_adopt, opened}
-use Rattle.sem_machine.specs.Ends.{ask_ended, call_ended, revoked_if_left, keys_of, ended}
+use Rattle.sem_machine.specs.Ends.{ask_ended, call_ended, revoked_if_left, keys_of_vpe, ended}
 use Rattle.sem_machine.specs.Calls.{next_key, next_place, child_made, derive_tests, narrowed, gate_tests, ask_made, obtain_tests, open_tests, offer_tests}
 use Rattle.sem_machine.specs.Calls.{delegate_tests, offer_made, bind_tests, destination_tests, call_row}
 use Rattle.sem_msg.specs.Uses.{memory_tests, send_tests, credit_tests}
@@ -60,7 +60,7 @@ use Rattle.sem_machine.specs.Resumes.{delegate_granted, delegate_resumed, resume
 use Rattle.sem_key.proofs.KeyTests.{key_eq-true, Contains-from_has_key, has_key-from_Contains}
 use Rattle.sem_key.proofs.Members.{Contains-nil, Contains-head, Contains-tail, Contains-cons_cases, Contains-filter, Contains-from_filter, Contains-from_map}
 use Rattle.sem_safety.specs.Onward.{IsOnward}
-use Rattle.sem_safety.specs.Seen.{Seen}
+use Rattle.sem_safety.specs.Observations.{ObservedSide}
 use Rattle.sem_safety.proofs.Layers.{facts}
 use Rattle.sem_machine.proofs.Folds.{in_turn-keeps}
 use Rattle.sem_safety.proofs.GoingOn.{AnyVpe}
@@ -173,7 +173,7 @@ module _ (pend : ℕ → KeyName → KeyName → Type 0) (base : Side) where
   added-q : (t : Side) (c : Capability) → Unrooted c.key → Quiet t → Quiet (cap_added c t)
   added-q t c new Q = record {
     waiting = Q.waiting;
-    marks = λ v k r pends d held. Q.marks v k r pends d (sym (ap (λ (z : Seen). z.cap r) (seen-cap_added c t)
+    marks = λ v k r pends d held. Q.marks v k r pends d (sym (ap (λ (z : ObservedSide). z.cap r) (seen-cap_added c t)
         ∙ cond-false (key_eq r c.key) (Some c) (cap t r) (false_from_ne_true (key_eq r c.key) (λ same. new v k r pends (sym (key_eq-true r c.key same)))))
         ∙ held);
   }
@@ -213,7 +213,7 @@ module _ (pend : ℕ → KeyName → KeyName → Type 0) (base : Side) where
       back : (k : KeyName) (c : Capability) → cap (linked p q t) k ≡ Some c → (d : Capability) × (cap t k ≡ Some d) × (d.mark ≡ c.mark)
           × ((z : KeyName) → (q ≡ z → ⊥) → has_key d.children z ≡ false → has_key c.children z ≡ false)
       back k c held =
-          let seen = ap (λ (z : Seen). z.cap k) (seen-cap_changed p f t (λ x. refl)) in
+          let seen = ap (λ (z : ObservedSide). z.cap k) (seen-cap_changed p f t (λ x. refl)) in
           elim (cases_Bool (key_eq k p)) [
             | inl same ↦ mapped (cap t k) c (sym (seen ∙ cond-true (key_eq k p) (option_map f (cap t k)) (cap t k) same) ∙ held)
             | inr differ ↦ (c, sym (seen ∙ cond-false (key_eq k p) (option_map f (cap t k)) (cap t k) differ) ∙ held, refl, λ z other none. none)
@@ -524,7 +524,7 @@ module _ (pend : ℕ → KeyName → KeyName → Type 0) where
       ∙ cond-true (v == v) (record (row s v) { alive = false; asks = [] }) (row s v) (eq-eqb v v refl)))) in
       let left : Waiting pend None (call_ended T (parked answered v) v (unparked v answered)) = waiting-unparked pend v answered down told.0 T in
       in_turn-keeps (Waiting pend None) (revoked_if_left T i) (λ k t here. waiting-left pend T i k t here)
-      (keys_of (call_ended T (parked answered v) v (unparked v answered)) v) (call_ended T (parked answered v) v (unparked v answered)) left
+      (keys_of_vpe (call_ended T (parked answered v) v (unparked v answered)) v) (call_ended T (parked answered v) v (unparked v answered)) left
 
 number-from : (ws : List ℕ) (v w : ℕ) → Contains (with_number ws v) w → (v ≡ w) ⊎ Contains ws w
 number-from ws v w among = elim (Contains-append_cases (filter (λ n. nat_lt n v) ws) (v ∷ filter (λ n. nat_lt v n) ws) w among) [

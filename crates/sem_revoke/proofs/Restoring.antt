@@ -7,7 +7,7 @@ use Rattle.sem_key.specs.Capability.{Capability}
 use Rattle.sem_key.specs.Region.{has_key}
 use Rattle.sem_key.proofs.KeyTests.{key_eq-true, key_eq-from}
 use Rattle.sem_msg.specs.Rows.{JobRow}
-use Rattle.sem_revoke.specs.Views.{View, Hand, free_hand, closing_job, Alive, Gone, Marked, Under, Caught, IsFit, Revokes}
+use Rattle.sem_revoke.specs.Views.{View, Obligations, no_obligations, closing_job, Alive, Gone, Marked, Under, Caught, IsFit, Revokes}
 use Rattle.sem_revoke.proofs.Keeping.{cases_Option, not-gone}
 
 -- a root that is kept
@@ -16,7 +16,7 @@ cleared c = record c { children = []; mark = None }
 
 module _ (owner : KeyName → ℕ) (G : KeyName → KeyName → Type 0) (one : (p q k : KeyName) → G p k → G q k → p ≡ q) (M : KeyName → Type 0) where
   -- The root of a job is nearer to a root of all than what else the job marks, so the job does not mark its parent.
-  module _ (rank : KeyName → ℕ) (older : (p k : KeyName) → G p k → rank p < rank k) (h : Hand) (V : View) (R : Revokes owner G M h V) (i n : ℕ) (x : JobRow)
+  module _ (rank : KeyName → ℕ) (older : (p k : KeyName) → G p k → rank p < rank k) (h : Obligations) (V : View) (R : Revokes owner G M h V) (i n : ℕ) (x : JobRow)
       (open_ : V.job i n ≡ Some x) where
     -- the root of the job that marks what is here is that of x
     root-or-under : (k : KeyName) → owner k ≡ i → Marked owner G M V k n →
@@ -131,11 +131,11 @@ module _ (owner : KeyName → ℕ) (G : KeyName → KeyName → Type 0) (one : (
     under-on k a b (p, granted, at, marked) other = (p, granted, at, marked-on p b marked (λ (here, job'). other (sym at ∙ here, job')))
 
     -- a child of what the job marked is gone
-    child-gone : (p k : KeyName) (d : Capability) → IsFit owner G M V → Revokes owner G M free_hand V → owner p ≡ i → V.hold p ≡ Some d → d.mark ≡ Some n →
+    child-gone : (p k : KeyName) (d : Capability) → IsFit owner G M V → Revokes owner G M no_obligations V → owner p ≡ i → V.hold p ≡ Some d → d.mark ≡ Some n →
         has_key d.children k ≡ true → Alive owner G M U k → ⊥
     child-gone p k d fit R at held marked child alive = from (R.caught p k d n held marked child (alive-before k alive))
       where
-        from : Caught owner G M free_hand V (owner p) n k → ⊥
+        from : Caught owner G M no_obligations V (owner p) n k → ⊥
         from (inl (same, (c, held', marked'))) = elim (is-root k) [
           | inl root' ↦ S.oldest (p, subst (G p) root' (fit.links p k (d, held, child)), at, (d, held, marked))
           | inr other ↦ not-gone owner G one M U k (
@@ -148,7 +148,7 @@ module _ (owner : KeyName → ℕ) (G : KeyName → KeyName → Type 0) (one : (
             omega (arith, more, zero', same)
         from (inr (inr care)) = care
 
-    pub keep_restored : IsFit owner G M V → Revokes owner G M free_hand V → Revokes owner G M (closing_job i n) U
+    pub keep_restored : IsFit owner G M V → Revokes owner G M no_obligations V → Revokes owner G M (closing_job i n) U
     keep_restored fit R = record {
       linked = λ p k granted alive.
           let d = R.linked p k granted (alive-before k alive) in
@@ -182,7 +182,7 @@ module _ (owner : KeyName → ℕ) (G : KeyName → KeyName → Type 0) (one : (
       placed = S.misplaced;
     }
       where
-        old : (p k : KeyName) (m : ℕ) → ((owner p ≡ i) × (m ≡ n) → ⊥) → Caught owner G M free_hand V (owner p) m k →
+        old : (p k : KeyName) (m : ℕ) → ((owner p ≡ i) × (m ≡ n) → ⊥) → Caught owner G M no_obligations V (owner p) m k →
             Caught owner G M (closing_job i n) U (owner p) m k
         old p k m other (inl (at, marked)) = inl (at, marked-on k m marked (λ (here, job'). other (sym at ∙ here, job')))
         old p k m other (inr (inl more)) = let same = S.asked_on k (owner p) m in inr (inl (omega (arith, more, same)))

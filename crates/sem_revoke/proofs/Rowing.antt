@@ -30,13 +30,13 @@ use Rattle.sem_machine.specs.Sides.{Side, row, cap, job, parked, outbox, parked_
 use Rattle.sem_machine.specs.Asks.{asker, is_unawaited, promise_freed, call_refused, refusal_sent, ask_refused}
 use Rattle.sem_machine.specs.Revokes.{begin, count_lowered, with_up, waiter_added, waiter_left, revoke_begun, clear_begun, ready_freed, obtain_cancelled}
 use Rattle.sem_machine.specs.Revokes.{request_begun, revoke_requested, revoke_done, settled, opened}
-use Rattle.sem_machine.specs.Ends.{ask_ended, call_ended, revoked_if_left, keys_of, ended_but_held, ended}
+use Rattle.sem_machine.specs.Ends.{ask_ended, call_ended, revoked_if_left, keys_of_vpe, ended_but_held, ended}
 use Rattle.sem_key.proofs.KeyTests.{key_eq-same, key_eq-true, key_eq-from}
 use Rattle.sem_machine.proofs.Folds.{in_turn-keeps, in_turn-keeps_each}
 use Rattle.sem_machine.proofs.Weighing.{weigh-map}
 use Rattle.sem_safety.proofs.Lives.{at_parked, lives-parked, lives-unparked, lives-inbox}
 use Rattle.sem_safety.proofs.JobIds.{HasIds, ids}
-use Rattle.sem_revoke.specs.Views.{Hand, IsCaused, free_hand, token, request}
+use Rattle.sem_revoke.specs.Views.{Obligations, IsCaused, no_obligations, token, request}
 use Rattle.sem_revoke.specs.Scales.{Scale, of_side, of_inbox, bit, names, requesting, naming, counting, noticing, straying, requesting_message, token_message}
 use Rattle.sem_revoke.proofs.Keeping.{holds-same, same-mark, cases_Option, not-gone}
 use Rattle.sem_revoke.proofs.Scaling.{side-changed, side-inbox}
@@ -70,7 +70,7 @@ module _ (C : Scene) where
   i = C.kernel
 
   -- Who waits for a job changes.
-  module _ (h : Hand) (s : Side) (g : JobRow → JobRow) (same : (x : JobRow) → ((g x).id ≡ x.id) × ((g x).root ≡ x.root)) (ups : (x : JobRow) →
+  module _ (h : Obligations) (s : Side) (g : JobRow → JobRow) (same : (x : JobRow) → ((g x).id ≡ x.id) × ((g x).root ≡ x.root)) (ups : (x : JobRow) →
       (g x).up ≡ x.up) (counts : (x : JobRow) → (g x).count ≡ x.count) (so : (x : JobRow) →
       StaysSo C x (g x)) (is : HasIds (record s { jobs = map g s.jobs })) (R : Row C h s) where
     abbrev t : Side
@@ -117,7 +117,7 @@ module _ (C : Scene) where
         R
 
   -- where the VPE has ended, what it had is lost
-  pub row-unwaited : (h : Hand) (j v : ℕ) (s : Side) → ((k : KeyName) → k.vpe ≡ v → C.lost k) → Row C h s → Row C h (waiter_left j v s)
+  pub row-unwaited : (h : Obligations) (j v : ℕ) (s : Side) → ((k : KeyName) → k.vpe ≡ v → C.lost k) → Row C h s → Row C h (waiter_left j v s)
   row-unwaited h j v s ends R =
       row-mapped h s (λ (x : JobRow). record x { waiters = without_number x.waiters v; keep = x.keep && not ((x.id == j) && (x.root.vpe == v)) })
       (λ x. (refl, refl)) (λ x. refl) (λ x. refl)
@@ -133,7 +133,7 @@ module _ (C : Scene) where
             ends x.root (eqb-true x.root.vpe v (and_parts (x.id == j) (x.root.vpe == v) test).1)
       ]
 
-  pub row-waiting : (h : Hand) (j v : ℕ) (s : Side) → Row C h s → Row C h (waiter_added j v s)
+  pub row-waiting : (h : Obligations) (j v : ℕ) (s : Side) → Row C h s → Row C h (waiter_added j v s)
   row-waiting h j v s R =
       let f : JobRow → JobRow = λ (x : JobRow). record x { waiters = with_number x.waiters v } in
       row-mapped h s (λ (x : JobRow). if x.id == j then f x else x)
@@ -144,7 +144,7 @@ module _ (C : Scene) where
       (ids.keeps_changed s R.ids j f (λ x. (refl, refl))) R
 
   -- a call is parked in a state that installs nothing
-  pub row-parked : (h : Hand) (v : ℕ) (p : Parked) (s : Side) → ((k : KeyName) → at_parked k (Some p) ≡ 0) → Row C h s → Row C h (parked_as v p s)
+  pub row-parked : (h : Obligations) (v : ℕ) (p : Parked) (s : Side) → ((k : KeyName) → at_parked k (Some p) ≡ 0) → Row C h s → Row C h (parked_as v p s)
   row-parked h v p s none R = rows-changed C h s s.vpes s.endpoints (put None s.parks v (Some p)) (λ k. let less = lives-parked k on_its_way s v p in
       let zero' = none k in omega (arith, less, zero')) R
 
@@ -156,19 +156,19 @@ module _ (C : Scene) where
 
   -- a job is opened
   pub row-opened_at : (root : KeyName) (waiters : List ℕ) (keep : Bool) → (keep ≡ false → C.lost root) × ((k : KeyName) → C.parent root k → C.lost k)
-      → (s : Side) (c : Capability) → cap s root ≡ Some c → c.mark ≡ None → Row C free_hand s → Row C free_hand (opened C.setup i root None waiters keep s)
+      → (s : Side) (c : Capability) → cap s root ≡ Some c → c.mark ≡ None → Row C no_obligations s → Row C no_obligations (opened C.setup i root None waiters keep s)
   unfolding opened
-  row-opened_at root waiters keep caused s c held unmarked R = row-opened C free_hand root None waiters keep (λ _. refl) caused s R c held unmarked
+  row-opened_at root waiters keep caused s c held unmarked R = row-opened C no_obligations root None waiters keep (λ _. refl) caused s R c held unmarked
       (λ a b loose. loose) (λ k a b care. absurd care) (λ k a b pass. let parts = and_parts (key_eq root k) false pass in
       absurd (true≢false (sym parts.1))) (λ a b. refl) (λ a b no'. absurd cc)
 
   pub row-begun : (root : KeyName) (waiters : List ℕ) (keep : Bool) → (keep ≡ false → C.lost root) × ((k : KeyName) → C.parent root k → C.lost k)
-      → (s : Side) (c : Capability) → cap s root ≡ Some c → c.mark ≡ None → Row C free_hand s → Row C free_hand (begin C.setup i root None waiters keep s)
+      → (s : Side) (c : Capability) → cap s root ≡ Some c → c.mark ≡ None → Row C no_obligations s → Row C no_obligations (begin C.setup i root None waiters keep s)
   row-begun root waiters keep caused s c held unmarked R =
       row-settled C s.next_job (opened C.setup i root None waiters keep s) (row-opened_at root waiters keep caused s c held unmarked R)
 
   pub row-opened_for : (root : KeyName) (from j : ℕ) (s : Side) (c : Capability) → cap s root ≡ Some c → c.mark ≡ None → IsUnder C s root from j
-      → Row C (request root from j) s → Row C free_hand (opened C.setup i root (Some (Remote from j)) [] false s)
+      → Row C (request root from j) s → Row C no_obligations (opened C.setup i root (Some (Remote from j)) [] false s)
   unfolding opened
   row-opened_for root from j s c held unmarked under R =
       row-opened C (request root from j) root (Some (Remote from j)) [] false (λ no'. absurd cc)
@@ -182,28 +182,28 @@ module _ (C : Scene) where
       subst (λ c. IsUnder C s root c b) (eqb-true from a parts.0) (subst (λ d. IsUnder C s root from d) (eqb-true j b parts.1) under))
 
   row-begun_for : (root : KeyName) (from j : ℕ) (s : Side) (c : Capability) → cap s root ≡ Some c → c.mark ≡ None → IsUnder C s root from j
-      → Row C (request root from j) s → Row C free_hand (begin C.setup i root (Some (Remote from j)) [] false s)
+      → Row C (request root from j) s → Row C no_obligations (begin C.setup i root (Some (Remote from j)) [] false s)
   row-begun_for root from j s c held unmarked under R = row-settled C s.next_job (opened C.setup i root (Some (Remote from j)) [] false s)
       (row-opened_for root from j s c held unmarked under R)
 
-  pub row-revoked : (v : ℕ) (k : KeyName) (s : Side) (c : Capability) → cap s k ≡ Some c → C.lost k → Row C free_hand s →
-      Row C free_hand (revoke_begun C.setup i v k c.mark s)
+  pub row-revoked : (v : ℕ) (k : KeyName) (s : Side) (c : Capability) → cap s k ≡ Some c → C.lost k → Row C no_obligations s →
+      Row C no_obligations (revoke_begun C.setup i v k c.mark s)
   row-revoked v k s c held is_lost R = from c.mark refl
     where
-      from : (m : Option ℕ) → c.mark ≡ m → Row C free_hand (revoke_begun C.setup i v k m s)
+      from : (m : Option ℕ) → c.mark ≡ m → Row C no_obligations (revoke_begun C.setup i v k m s)
       from None unmarked = row-begun k (v ∷ []) false (all-lost k is_lost) (parked_as v (RevokeWait s.next_job) s) c held unmarked
-          (row-parked free_hand v (RevokeWait s.next_job) s (λ q. refl) R)
-      from (Some j) marked = row-waiting free_hand j v (parked_as v (RevokeWait j) s) (row-parked free_hand v (RevokeWait j) s (λ q. refl) R)
+          (row-parked no_obligations v (RevokeWait s.next_job) s (λ q. refl) R)
+      from (Some j) marked = row-waiting no_obligations j v (parked_as v (RevokeWait j) s) (row-parked no_obligations v (RevokeWait j) s (λ q. refl) R)
 
   pub row-cleared : (v : ℕ) (k : KeyName) (s : Side) (c : Capability) → cap s k ≡ Some c → c.mark ≡ None → ((q : KeyName) → C.parent k q → C.lost q) →
-      Row C free_hand s → Row C free_hand (clear_begun C.setup i v k s)
+      Row C no_obligations s → Row C no_obligations (clear_begun C.setup i v k s)
   row-cleared v k s c held unmarked lost R = row-begun k (v ∷ []) true (λ no'. absurd cc, lost) (parked_as v (RevokeWait s.next_job) s) c held unmarked
-      (row-parked free_hand v (RevokeWait s.next_job) s (λ q. refl) R)
+      (row-parked no_obligations v (RevokeWait s.next_job) s (λ q. refl) R)
 
   -- A request from another kernel.
   module _ (k : KeyName) (from j : ℕ) (s : Side) (here : owner C k ≡ i) (away : from ≢ i) (under : IsUnder C s k from j) (R : Row C (request k from j) s) where
     -- the key is marked by another job: its root, which nobody waits for yet
-    upped : (c : Capability) (m : ℕ) → cap s k ≡ Some c → c.mark ≡ Some m → Row C free_hand (with_up (Remote from j) m s)
+    upped : (c : Capability) (m : ℕ) → cap s k ≡ Some c → c.mark ≡ Some m → Row C no_obligations (with_up (Remote from j) m s)
     upped c m held marked =
         let is_marked : IsMarked C s k m = (c, hold-here C s k here ∙ held, marked) in
         let found = R.revokes.marks k m is_marked in
@@ -217,9 +217,9 @@ module _ (C : Scene) where
         f : JobRow → JobRow
         f x = record x { up = Some (Remote from j); keep = false }
 
-        with_it : (x : JobRow) → job s m ≡ Some x → x.root ≡ k → Row C free_hand (with_up (Remote from j) m s)
+        with_it : (x : JobRow) → job s m ≡ Some x → x.root ≡ k → Row C no_obligations (with_up (Remote from j) m s)
         with_it x open_ root =
-            step C (request k from j) free_hand s t
+            step C (request k from j) no_obligations s t
             (holds-same (owner C) C.parent C.one_parent C.made (view C s) (view C t) (λ q. refl) (λ q. omega arith))
             (changed-roots C s m f (λ x. (refl, refl)) (λ z there. (λ is kept. absurd cc, λ is. (λ leaves. root-lost z there, is.1))))
             R.rises (ids.keeps_changed s R.ids m f (λ x. (refl, refl))) R.homes (record { inbox = R.sent.inbox; sends = R.sent.sends })
@@ -326,30 +326,30 @@ module _ (C : Scene) where
         freed-ready (Some (Ready code)) = R
 
     -- the key is not held: nothing of it is on its way once a ready obtain is cancelled
-    missed : IsGone C (obtain_cancelled k s) k → Row C free_hand (send from (RevokeDone j) (obtain_cancelled k s))
+    missed : IsGone C (obtain_cancelled k s) k → Row C no_obligations (send from (RevokeDone j) (obtain_cancelled k s))
     missed gone =
-        row-sent C (request k from j) free_hand (obtain_cancelled k s) from (RevokeDone j) (λ q a b. refl) (λ q. refl) refl (λ a b. omega arith)
+        row-sent C (request k from j) no_obligations (obtain_cancelled k s) from (RevokeDone j) (λ q a b. refl) (λ q. refl) refl (λ a b. omega arith)
         (λ a b q alive (at, job', same). not-gone (owner C) C.parent C.one_parent C.made (view C (obtain_cancelled k s)) k gone
         (subst (IsAlive C (obtain_cancelled k s)) same alive))
         (λ a b q care. absurd care)
         (λ a n loose. loose) (λ q more. absurd (omega (arith, more))) cancelled
 
-    pub row-requested : ((cap s k ≡ None) → IsGone C (obtain_cancelled k s) k) → Row C free_hand (revoke_requested C.setup i from j k (cap s k) s)
+    pub row-requested : ((cap s k ≡ None) → IsGone C (obtain_cancelled k s) k) → Row C no_obligations (revoke_requested C.setup i from j k (cap s k) s)
     row-requested late = by_cap (cap s k) refl
       where
-        by_mark : (c : Capability) → cap s k ≡ Some c → (m : Option ℕ) → c.mark ≡ m → Row C free_hand (request_begun C.setup i from j k m s)
+        by_mark : (c : Capability) → cap s k ≡ Some c → (m : Option ℕ) → c.mark ≡ m → Row C no_obligations (request_begun C.setup i from j k m s)
         by_mark c held None unmarked = row-begun_for k from j s c held unmarked under R
         by_mark c held (Some m) marked = upped c m held marked
 
-        by_cap : (o : Option Capability) → cap s k ≡ o → Row C free_hand (revoke_requested C.setup i from j k o s)
+        by_cap : (o : Option Capability) → cap s k ≡ o → Row C no_obligations (revoke_requested C.setup i from j k o s)
         by_cap None none = missed (late none)
         by_cap (Some c) held = by_mark c held c.mark refl
 
   -- A token that comes back.
-  pub row-done : (j : ℕ) (s : Side) → Row C (token i j) s → Row C free_hand (revoke_done C.setup i j s)
+  pub row-done : (j : ℕ) (s : Side) → Row C (token i j) s → Row C no_obligations (revoke_done C.setup i j s)
   row-done j s R = from (job s j) refl
     where
-      from : (o : Option JobRow) → job s j ≡ o → Row C free_hand (settled_if_there C.setup i j o s)
+      from : (o : Option JobRow) → job s j ≡ o → Row C no_obligations (settled_if_there C.setup i j o s)
       from None none =
           let is = R.revokes.counted i j in
           let one = one-true ((i == i) && (j == j)) (and_from (i == i) (j == j) (eq-eqb i i refl) (eq-eqb j j refl)) in
@@ -360,14 +360,14 @@ module _ (C : Scene) where
 
   -- The end of a VPE.
 
-  pub row-refused : (code : Code) (a : Ask) (s : Side) → Row C free_hand s → Row C free_hand (ask_refused C.setup i code a s)
+  pub row-refused : (code : Code) (a : Ask) (s : Side) → Row C no_obligations s → Row C no_obligations (ask_refused C.setup i code a s)
   row-refused code a s R = cond_both (kernel_of C.setup (asker a) == i) (call_refused (code_number code) (asker a) s) (refusal_sent C.setup code a s)
-      (Row C free_hand) (λ _. parked-row C free_hand (asker a) (code_number code) (promise_freed (parked s (asker a)) (asker a) s)
+      (Row C no_obligations) (λ _. parked-row C no_obligations (asker a) (code_number code) (promise_freed (parked s (asker a)) (asker a) s)
       (freed-promise (parked s (asker a)) (asker a))) (λ _. refusal a)
     where
-      freed-promise : (p : Option Parked) (v : ℕ) → Row C free_hand (promise_freed p v s)
+      freed-promise : (p : Option Parked) (v : ℕ) → Row C no_obligations (promise_freed p v s)
       freed-promise None v = R
-      freed-promise (Some (ObtainWait number sel)) v = freed-row C free_hand v sel s R
+      freed-promise (Some (ObtainWait number sel)) v = freed-row C no_obligations v sel s R
       freed-promise (Some (ObtainReady key parent object sel)) v = R
       freed-promise (Some ObtainCancelled) v = R
       freed-promise (Some (DelegateWait parent)) v = R
@@ -375,25 +375,25 @@ module _ (C : Scene) where
       freed-promise (Some (RevokeWait j)) v = R
       freed-promise (Some (Ready code)) v = R
 
-      refusal : (a : Ask) → Row C free_hand (refusal_sent C.setup code a s)
-      refusal (ObtainAsk place target) = row-sent C free_hand free_hand s (place_owner C.setup place) (ObtainNo place (code_number code)) (λ k a b. refl)
+      refusal : (a : Ask) → Row C no_obligations (refusal_sent C.setup code a s)
+      refusal (ObtainAsk place target) = row-sent C no_obligations no_obligations s (place_owner C.setup place) (ObtainNo place (code_number code)) (λ k a b. refl)
           (λ k. refl) refl (λ a b. refl) (λ a b k alive care. care) (λ a b k care. care) (λ a n loose. loose) (λ k more. absurd (omega (arith, more))) R
-      refusal (DelegateAsk parent object sel) = row-sent C free_hand free_hand s (owner C parent) (DelegateNo parent (code_number code)) (λ k a b. refl)
+      refusal (DelegateAsk parent object sel) = row-sent C no_obligations no_obligations s (owner C parent) (DelegateNo parent (code_number code)) (λ k a b. refl)
           (λ k. refl) refl (λ a b. refl) (λ a b k alive care. care) (λ a b k care. care) (λ a n loose. loose) (λ k more. absurd (omega (arith, more))) R
 
-  unparked-row : (v : ℕ) (s : Side) → Row C free_hand s → Row C free_hand (unparked v s)
-  unparked-row v s R = rows-changed C free_hand s s.vpes s.endpoints (put None s.parks v None) (λ k. let less = lives-unparked k on_its_way s v in
+  unparked-row : (v : ℕ) (s : Side) → Row C no_obligations s → Row C no_obligations (unparked v s)
+  unparked-row v s R = rows-changed C no_obligations s s.vpes s.endpoints (put None s.parks v None) (λ k. let less = lives-unparked k on_its_way s v in
       omega (arith, less)) R
 
   -- what the parked call of the dead VPE owes
-  row-call_ended : (v : ℕ) (s : Side) → ((k : KeyName) → k.vpe ≡ v → C.lost k) → Row C free_hand s →
-      Row C free_hand (call_ended C.setup (parked s v) v (unparked v s))
+  row-call_ended : (v : ℕ) (s : Side) → ((k : KeyName) → k.vpe ≡ v → C.lost k) → Row C no_obligations s →
+      Row C no_obligations (call_ended C.setup (parked s v) v (unparked v s))
   row-call_ended v s ends R = from (parked s v) refl
     where
       t : Side
       t = unparked v s
 
-      U : Row C free_hand t
+      U : Row C no_obligations t
       U = unparked-row v s R
 
       -- the key of an install that does not come is gone
@@ -412,60 +412,60 @@ module _ (C : Scene) where
             R.fit.made key (inr (omega (arith, sum, weight))),
           )
 
-      from : (p : Option Parked) → parked s v ≡ p → Row C free_hand (call_ended C.setup p v t)
+      from : (p : Option Parked) → parked s v ≡ p → Row C no_obligations (call_ended C.setup p v t)
       from None is = U
       from (Some (ObtainWait number sel)) is = U
       from (Some (ObtainReady key parent object sel)) is =
           let gone = orphan key parent (Some (ObtainReady key parent object sel)) is (cond-true (key_eq key key) 1 0 (key_eq-same key)) in
-          row-sent C free_hand free_hand t (owner C parent) (Orphan parent key) (λ k a b. refl) (λ k. refl) refl (λ a b. refl) (λ a b k alive care. care)
+          row-sent C no_obligations no_obligations t (owner C parent) (Orphan parent key) (λ k a b. refl) (λ k. refl) refl (λ a b. refl) (λ a b k alive care. care)
           (λ a b k care. care) (λ a n loose. loose)
           (λ k more. let same : key ≡ k = key_eq-true key k (one-more (key_eq key k) more) in subst (λ z. IsGone C t z × C.made z) same gone) U
       from (Some ObtainCancelled) is = U
       from (Some (DelegateWait parent)) is = U
-      from (Some (DelegateReady parent key)) is = row-sent C free_hand free_hand t (owner C key) (Ack key false) (λ k a b. refl) (λ k. refl) refl (λ a b. refl)
+      from (Some (DelegateReady parent key)) is = row-sent C no_obligations no_obligations t (owner C key) (Ack key false) (λ k a b. refl) (λ k. refl) refl (λ a b. refl)
           (λ a b k alive care. care) (λ a b k care. care) (λ a n loose. loose) (λ k more. absurd (omega (arith, more))) U
-      from (Some (RevokeWait j)) is = row-unwaited free_hand j v t ends U
+      from (Some (RevokeWait j)) is = row-unwaited no_obligations j v t ends U
       from (Some (Ready code)) is = U
 
-  pub row-left : (k : KeyName) (s : Side) → C.lost k → Row C free_hand s → Row C free_hand (revoked_if_left C.setup i k s)
+  pub row-left : (k : KeyName) (s : Side) → C.lost k → Row C no_obligations s → Row C no_obligations (revoked_if_left C.setup i k s)
   row-left k s is_lost R = from (cap s k) refl
     where
       by_mark : (c : Capability) → cap s k ≡ Some c → (m : Option ℕ) → c.mark ≡ m →
-          Row C free_hand (option_map_or (λ m. s) m (begin C.setup i k None [] false s))
+          Row C no_obligations (option_map_or (λ m. s) m (begin C.setup i k None [] false s))
       by_mark c held None unmarked = row-begun k [] false (all-lost k is_lost) s c held unmarked R
       by_mark c held (Some m) marked = R
 
-      from : (o : Option Capability) → cap s k ≡ o → Row C free_hand (revoked_if_there C.setup i k o s)
+      from : (o : Option Capability) → cap s k ≡ o → Row C no_obligations (revoked_if_there C.setup i k o s)
       from None none = R
       from (Some c) held = by_mark c held c.mark refl
 
-  pub row-ended_but_held : (v : ℕ) (s : Side) → ((k : KeyName) → k.vpe ≡ v → C.lost k) → Row C free_hand s → Row C free_hand (ended_but_held C.setup i v s)
+  pub row-ended_but_held : (v : ℕ) (s : Side) → ((k : KeyName) → k.vpe ≡ v → C.lost k) → Row C no_obligations s → Row C no_obligations (ended_but_held C.setup i v s)
   row-ended_but_held v s ends R =
       let asks : List Ask = (row s v).asks in
-      let dead : Row C free_hand (buried v s) = rows-changed C free_hand s (put no_vpe s.vpes v (record (row s v) { alive = false; asks = [] })) s.endpoints
+      let dead : Row C no_obligations (buried v s) = rows-changed C no_obligations s (put no_vpe s.vpes v (record (row s v) { alive = false; asks = [] })) s.endpoints
       s.parks (λ k. omega arith) R in
       let answered : Side = in_turn (ask_ended C.setup i) asks (buried v s) in
-      let told : Row C free_hand answered =
-      in_turn-keeps (Row C free_hand) (ask_ended C.setup i) (λ a t here. cond_both (is_unawaited C.setup i t a) t (ask_refused C.setup i Dead a t)
-      (Row C free_hand) (λ _. here) (λ _. row-refused Dead a t here)) asks (buried v s) dead in
+      let told : Row C no_obligations answered =
+      in_turn-keeps (Row C no_obligations) (ask_ended C.setup i) (λ a t here. cond_both (is_unawaited C.setup i t a) t (ask_refused C.setup i Dead a t)
+      (Row C no_obligations) (λ _. here) (λ _. row-refused Dead a t here)) asks (buried v s) dead in
       row-call_ended v answered ends told
 
-  pub row-ended : (v : ℕ) (s : Side) → ((k : KeyName) → k.vpe ≡ v → C.lost k) → Row C free_hand s → Row C free_hand (ended C.setup i v s)
+  pub row-ended : (v : ℕ) (s : Side) → ((k : KeyName) → k.vpe ≡ v → C.lost k) → Row C no_obligations s → Row C no_obligations (ended C.setup i v s)
   unfolding ended
   row-ended v s ends R =
       let last : Side = ended_but_held C.setup i v s in
-      in_turn-keeps_each (Row C free_hand) (revoked_if_left C.setup i) (keys_of last v)
+      in_turn-keeps_each (Row C no_obligations) (revoked_if_left C.setup i) (keys_of_vpe last v)
       (λ k among t here. row-left k t (ends k (eqb-true k.vpe v (Contains-from_filter (λ (q : KeyName). q.vpe == v) (CapList.keys_of last.caps) k among).1))
       here) last (row-ended_but_held v s ends R)
 
   -- A message is taken out of the inbox.
-  pub row-taken : (h : Hand) (s : Side) (from : ℕ) (m : Message) → s.inbox ≡ Some (from, m)
+  pub row-taken : (h : Obligations) (s : Side) (from : ℕ) (m : Message) → s.inbox ≡ Some (from, m)
       → ((k : KeyName) (a b : ℕ) → 1 ≤ requesting_message k a b from i m → h.cares a b k)
       → ((a b : ℕ) → h.owed a b ≡ token_message a b from i m)
       → ((k : KeyName) (a b : ℕ) → h.cares a b k → 1 ≤ requesting_message k a b from i m)
-      → Row C free_hand s → Row (record C { before = with_inbox None s }) h (with_inbox None s)
+      → Row C no_obligations s → Row (record C { before = with_inbox None s }) h (with_inbox None s)
   row-taken h s from m full cares owed cared R =
-      step_from D free_hand h s t
+      step_from D no_obligations h s t
       (holds-same (owner C) C.parent C.one_parent C.made (view C s) (view C t) (λ k. refl) (λ k. let sum = lives-inbox k on_its_way s None in
       omega (arith, sum)))
       (no-roots D s t refl) R.rises (record { rise = R.ids.rise; drawn = R.ids.drawn }) R.homes here

@@ -17,7 +17,7 @@ use Rattle.sem_machine.specs.Handles.{handle_row}
 use Rattle.sem_machine.specs.Resumes.{resume_row}
 use Rattle.sem_machine.specs.Machine.{start_side, start, local_step, local_entry, is_locally_enabled, is_enabled, enabled, after, entry_of, side}
 use Rattle.sem_machine.specs.Schedules.{IsSchedule, world_after}
-use Rattle.sem_machine.specs.Journals.{root_keys_from, line_in, line, cut_from, answered_from, answered, forest}
+use Rattle.sem_machine.specs.Journals.{root_keys_from, ancestry_in, ancestry, cut_from, answered_from, answered, forest}
 use Rattle.sem_machine.specs.Living.{IsLive, IsOnItsWay, Binds}
 use Rattle.sem_machine.specs.Sides.{cap}
 use Rattle.sem_machine.specs.Safety.{IsInUse}
@@ -79,8 +79,8 @@ on-its-way = (granted, λ held. nothing held.0 held.1)
     nothing : (i : ℕ) → IsSome (cap (side (world_after sample (sample_journal to_grant)) i) (obtained_key 0)) → ⊥
     nothing i some = let none = not-held i in absurd (cc)
 
-pub line-of-part : line (sample_journal to_grant) (obtained_key 0) ≡ obtained_key 0 ∷ derived_key ∷ memory_key ∷ []
-unfolding line_in sample pair walked put in_turn unless services_from grow closed_here finish opened ended call_row upcall_row handle_row resume_row start_side
+pub line-of-part : ancestry (sample_journal to_grant) (obtained_key 0) ≡ obtained_key 0 ∷ derived_key ∷ memory_key ∷ []
+unfolding ancestry_in sample pair walked put in_turn unless services_from grow closed_here finish opened ended call_row upcall_row handle_row resume_row start_side
     start local_step local_entry is_locally_enabled is_enabled enabled after entry_of
 line-of-part = refl
 
@@ -95,8 +95,8 @@ unfolding answered_from sample pair walked put in_turn unless services_from grow
     start_side start local_step local_entry is_locally_enabled is_enabled enabled after entry_of
 answered-revoke = Contains-head derived_key []
 
-part-line : line (sample_journal to_revoke) (obtained_key 0) ≡ obtained_key 0 ∷ derived_key ∷ memory_key ∷ []
-unfolding line_in sample pair walked put in_turn unless services_from grow closed_here finish opened ended call_row upcall_row handle_row resume_row start_side
+part-line : ancestry (sample_journal to_revoke) (obtained_key 0) ≡ obtained_key 0 ∷ derived_key ∷ memory_key ∷ []
+unfolding ancestry_in sample pair walked put in_turn unless services_from grow closed_here finish opened ended call_row upcall_row handle_row resume_row start_side
     start local_step local_entry is_locally_enabled is_enabled enabled after entry_of
 part-line = refl
 
@@ -112,8 +112,8 @@ unfolding answered_from sample pair walked put in_turn unless services_from grow
 answered-clear = Contains-tail derived_key (derived_key ∷ obtained_key 1 ∷ []) (obtained_key 1)
     (Contains-tail derived_key (obtained_key 1 ∷ []) (obtained_key 1) (Contains-head (obtained_key 1) []))
 
-cleared-line : line (sample_journal to_clear) (obtained_key 1) ≡ obtained_key 1 ∷ memory_key ∷ []
-unfolding line_in sample pair walked put in_turn unless services_from grow closed_here finish opened ended call_row upcall_row handle_row resume_row start_side
+cleared-line : ancestry (sample_journal to_clear) (obtained_key 1) ≡ obtained_key 1 ∷ memory_key ∷ []
+unfolding ancestry_in sample pair walked put in_turn unless services_from grow closed_here finish opened ended call_row upcall_row handle_row resume_row start_side
     start local_step local_entry is_locally_enabled is_enabled enabled after entry_of
 cleared-line = refl
 
@@ -123,6 +123,6 @@ cleared-gone used = (all-safe sample sample-setup (sample_journal to_clear) runs
 
 -- what was cleared is in the forest, and held
 pub memory-kept : Contains (forest sample (sample_journal to_clear)) memory_key
-unfolding root_keys_from line_in cut_from sample pair walked put in_turn unless services_from grow closed_here finish opened ended call_row upcall_row
+unfolding root_keys_from ancestry_in cut_from sample pair walked put in_turn unless services_from grow closed_here finish opened ended call_row upcall_row
     handle_row resume_row start_side start local_step local_entry is_locally_enabled is_enabled enabled after entry_of
 memory-kept = Contains-head memory_key []

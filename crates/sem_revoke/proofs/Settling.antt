@@ -1,7 +1,8 @@
 -- A job that has begun settles the children of its region: the remote ones are asked for, and of the local ones those that another job has marked are waited
 -- for.
 use Rattle.std.proofs.lemmas.Option.{same_Some}
-use Rattle.std.proofs.Common.{◌≡◌, ◌≢◌, ◌⊎◌, ℕ, ◌+◌, ◌≤◌, Bool, true, false, not, ◌&&◌, List, [], ◌∷◌, Option, Some, None, refl, sym, ap, ◌∙◌, subst, inl, inr}
+use Rattle.std.proofs.Common.{◌≡◌, ◌≢◌, ◌⊎◌, ℕ, ◌+◌, ◌≤◌, Bool, true, false, not, ◌&&◌, List, [], ◌∷◌, Option}
+use Rattle.std.proofs.Common.{Some, None, refl, sym, ap, ◌∙◌, subst, inl, inr}
 use Rattle.std.proofs.Common.{arith, eq-eqb}
 use Rattle.std.specs.Prelude.{◌==◌, if◌then◌else◌}
 use Rattle.std.specs.Option.{option_map, option_and_then}
@@ -20,12 +21,12 @@ use Rattle.sem_machine.specs.Revokes.{count_raised, with_up, other_marker, adopt
 use Rattle.sem_key.proofs.KeyTests.{key_eq-same, key_eq-true, key_eq-from}
 use Rattle.sem_safety.proofs.Lives.{lives-send}
 use Rattle.sem_safety.proofs.JobIds.{HasIds, ids}
-use Rattle.sem_revoke.specs.Views.{free_hand, children, Caught}
+use Rattle.sem_revoke.specs.Views.{no_obligations, children, Caught}
 use Rattle.sem_revoke.specs.Scales.{of_side, bit, names, requesting, naming, counting, noticing, straying}
 use Rattle.sem_revoke.proofs.Keeping.{holds-same, same-mark}
 use Rattle.sem_revoke.proofs.Scaling.{side-send, side-changed}
 use Rattle.sem_revoke.proofs.Viewing.{on_its_way, Scene, one-true, one-false, owner, view, IsAlive, IsMarked, IsUnder, Row, hold-here, job-here, under-lost}
-use Rattle.sem_revoke.proofs.Viewing.{job-weighs, job-id, changed-job, changed-roots, roots-joined, no-roots, sent-more, step, rehand}
+use Rattle.sem_revoke.proofs.Viewing.{job-weighs, job-id, changed-job, changed-roots, roots-joined, no-roots, sent-more, step, obligations-changed}
 
 -- a count that grows
 pub count-one : (t : Bool) (n : ℕ) → (if t then n + 1 else 0) ≡ (if t then n else 0) + bit t
@@ -51,7 +52,8 @@ module _ (C : Scene) where
   abbrev raise : JobRow → JobRow
   raise x = record x { count = x.count + 1 }
 
-  pub changed-same : (s : Side) (m : ℕ) (f : JobRow → JobRow) (x : JobRow) → ((x : JobRow) → ((f x).id ≡ x.id) × ((f x).root ≡ x.root)) → job s m ≡ Some x →
+  pub changed-same : (s : Side) (m : ℕ) (f : JobRow → JobRow) (x : JobRow) → ((x : JobRow) → ((f x).id ≡ x.id) × ((f x).root ≡ x.root))
+      → job s m ≡ Some x →
       job (job_changed m f s) m ≡ Some (f x)
   changed-same s m f x same open_ = changed-job C s m f same m ∙ (cond-true (m == m) (option_map f (job s m)) (job s m) (eq-eqb m m refl)
       ∙ ap (option_map f) open_)
@@ -331,7 +333,7 @@ module _ (C : Scene) where
       -- nothing is done
       stays : (IsAlive C s k → IsMarked C s k j) → Settling j ks s
       stays marked = record {
-        row = rehand C (children i j (k ∷ ks)) (children i j ks) s
+        row = obligations-changed C (children i j (k ∷ ks)) (children i j ks) s
             (λ q a b alive under' (at, job', has). elim (or_cases (key_eq q k) (has_key ks q) has) [
               | inl same ↦
                   let is_k : q ≡ k = key_eq-true q k same in
@@ -415,6 +417,7 @@ module _ (C : Scene) where
   settle-all j (k ∷ ks) s S = settle-all j ks (request_or_adopt C.setup i j k s) (settle-one s j k ks S)
 
   -- no child is left
-  pub settled-all : (j : ℕ) (s : Side) → Settling j [] s → Row C free_hand s
-  settled-all j s S = rehand C (children i j []) free_hand s (λ k a b alive under (at, job', has). absurd cc) (λ k a b care. absurd care) (λ a n loose. loose)
+  pub settled-all : (j : ℕ) (s : Side) → Settling j [] s → Row C no_obligations s
+  settled-all j s S = obligations-changed C (children i j []) no_obligations s (λ k a b alive under (at, job', has). absurd cc)
+      (λ k a b care. absurd care) (λ a n loose. loose)
       (λ a b. refl) S.row

@@ -1,11 +1,10 @@
 -- What no part of a revoke changes: where it is so of a side, it is so after each step of revokes, clears, requests and tokens, and of the end of what a VPE
 -- holds.
-use Rattle.std.proofs.Common.{◌≡◌, inl, inr, sym, ap, ◌∙◌, subst, is_some, refl, ℕ, zero, suc, ◌+◌, ◌-◌, Bool, true, false, not, ◌&&◌, List, [], ◌∷◌, length}
+use Rattle.std.proofs.Common.{◌≡◌, sym, ap, ◌∙◌, subst, is_some, refl, ℕ, ◌+◌, ◌-◌, Bool, true, false, not, ◌&&◌, List, [], ◌∷◌}
 use Rattle.std.proofs.Common.{filter, map, Option, Some, None}
 use Rattle.std.specs.Prelude.{◌==◌, if◌then◌else◌}
 use Rattle.std.specs.List.{Contains, list_any}
-use Rattle.std.proofs.lemmas.Bool.{cases_Bool, cond_both, cond-true, cond-false, and_parts}
-use Rattle.std.proofs.lemmas.Option.{same_Some}
+use Rattle.std.proofs.lemmas.Bool.{cond_both, and_parts}
 use Rattle.sem_key.specs.declared.object.Object.{Object}
 use Rattle.sem_key.specs.KeyName.{KeyName}
 use Rattle.sem_key.specs.Lists.{change, put}
@@ -13,33 +12,31 @@ use Rattle.sem_key.specs.Capability.{Capability}
 use Rattle.sem_key.specs.CapList.{marked_by, restored, with_mark, is_marked_by}
 use Rattle.sem_key.specs.KeyList.{without_key}
 use Rattle.sem_key.specs.KeyName.{key_eq}
-use Rattle.sem_key.specs.Region.{region, children_of, has_key}
+use Rattle.sem_key.specs.Region.{region, has_key}
 use Rattle.sem_key.proofs.KeyTests.{Contains-from_has_key, has_key-from_Contains}
-use Rattle.sem_key.proofs.Members.{Contains-from_filter, Contains-from_map, found}
+use Rattle.sem_key.proofs.Members.{Contains-from_filter, Contains-from_map}
 use Rattle.sem_msg.specs.declared.code.Code.TheVariants.{Ok as OkCode}
 use Rattle.sem_msg.specs.Codes.{code_number}
 use Rattle.sem_msg.specs.declared.message.Message.{Message}
-use Rattle.sem_msg.specs.declared.message.Message.TheVariants.{RevokeReq, RevokeDone, Unlink}
 use Rattle.sem_msg.specs.declared.state.Parked.{Parked}
 use Rattle.sem_msg.specs.declared.state.Parked.TheVariants.{ObtainWait, ObtainReady, ObtainCancelled, DelegateWait, DelegateReady, RevokeWait, Ready}
 use Rattle.sem_msg.specs.declared.state.Up.{Up}
-use Rattle.sem_msg.specs.declared.state.Up.TheVariants.{Local, Remote}
 use Rattle.sem_msg.specs.Rows.{JobRow, Endpoint}
-use Rattle.sem_msg.specs.JobRows.{if_done, next_done, job_of, with_number, without_number}
+use Rattle.sem_msg.specs.JobRows.{with_number, without_number}
 use Rattle.sem_msg.specs.VpeRows
 use Rattle.sem_msg.specs.ParkedStates.{is_ready_with}
 use Rattle.sem_msg.specs.Setup.{Setup}
-use Rattle.sem_msg.specs.Lookups.{owner_of, is_local}
-use Rattle.sem_machine.specs.Sides.{Side, cap, job, parked, freed, parked_as, unlinked, mark_all, unbind_all, job_opened, job_removed, send}
-use Rattle.sem_machine.specs.Revokes.{count_raised, count_lowered, with_up, other_marker, adopted, request_or_adopt, spared, root_spared, selectors_freed}
-use Rattle.sem_machine.specs.Revokes.{all_freed, swept, woken, parent_left, up_told, left_parent, closed_here, closed, finish, settled, opened, begin}
-use Rattle.sem_machine.specs.Revokes.{waiter_left, revoke_begun, clear_begun, ready_freed, obtain_cancelled, request_begun, revoke_requested, revoke_done}
+use Rattle.sem_machine.specs.Sides.{Side, cap, parked, freed, parked_as, unlinked, mark_all, job_opened, job_removed, send}
+use Rattle.sem_machine.specs.Revokes.{request_or_adopt, spared, root_spared, selectors_freed}
+use Rattle.sem_machine.specs.Revokes.{all_freed, swept, woken, closed, settled, opened, begin}
+use Rattle.sem_machine.specs.Revokes.{waiter_left, revoke_begun, clear_begun, revoke_requested, revoke_done}
 use Rattle.sem_machine.specs.Asks.{promise_freed}
 use Rattle.sem_machine.specs.Handles.{obtain_ready}
 use Rattle.sem_machine.specs.Ends.{revoked_if_left}
 use Rattle.sem_machine.proofs.Folds.{in_turn-keeps, option-keeps}
 use Rattle.sem_revoke.proofs.Growing.{is_plain}
-use Rattle.sem_revoke.proofs.Rowing.{settled_if_there, revoked_if_there}
+use Rattle.sem_revoke.proofs.Rowing.{revoked_if_there}
+use Rattle.sem_revoke.proofs.KeptJobs.{region_marked, KeepsJobs, closed-kept, settled-kept, asks_for-kept, opened-kept, begin-kept, requested-kept, done-kept}
 
 -- One capability comes of another: with its key, parent and object, no link more, and marked if the other was.
 pub record IsThinned (d c : Capability) : Type 0 where
@@ -110,22 +107,6 @@ less-map f so xs = λ y among.
       λ keeps. is.2 (ap (λ (z : JobRow). z.keep) o.2 ∙ keeps),
     )
 
--- a job that is done, or comes next, is among the jobs
-pub done-among : (xs : List JobRow) (j : ℕ) (y : JobRow) → if_done (job_of xs j) ≡ Some y → Contains xs y
-done-among xs j y done = from (job_of xs j) refl done
-  where
-    from : (o : Option JobRow) → job_of xs j ≡ o → if_done o ≡ Some y → Contains xs y
-    from None none is = absurd cc
-    from (Some x) some is = elim (cases_Bool (x.count == 0)) [
-      | inl pass ↦ subst (Contains xs) (same_Some x y (sym (cond-true (x.count == 0) (Some x) None pass) ∙ is)) (found (λ (z : JobRow). z.id == j) xs x some).0
-      | inr fail ↦ let none : None ≡ Some y = sym (cond-false (x.count == 0) (Some x) None fail) ∙ is in absurd cc
-    ]
-
-pub next-among : (up : Option Up) (xs : List JobRow) (y : JobRow) → next_done up xs ≡ Some y → Contains xs y
-next-among None xs y next = absurd cc
-next-among (Some (Local j)) xs y next = done-among xs j y next
-next-among (Some (Remote kernel j)) xs y next = absurd cc
-
 -- the changes of a side that a revoke is made of
 pub record IsSteady (P : Side → Type 0) : Type 0 where
   pub caps : (s : Side) (cs : List Capability) → Thins s.caps cs → P s → P (record s { caps = cs })
@@ -143,15 +124,6 @@ module _ (P : Side → Type 0) (S : IsSteady P) where
       ((x : JobRow) → ((f x).id ≡ x.id) × ((f x).root ≡ x.root) × ((f x).keep ≡ true → x.keep ≡ true)) →
       P (record t { jobs = change (λ (x : JobRow). x.id == j) f t.jobs })
   changed-steady t is j f so = S.jobs t (change (λ (x : JobRow). x.id == j) f t.jobs) (less-change (λ (x : JobRow). x.id == j) f so t.jobs) is
-
-  raised-steady : (t : Side) → P t → (j : ℕ) → P (count_raised j t)
-  raised-steady t is j = changed-steady t is j (λ x. record x { count = x.count + 1 }) (λ x. (refl, refl, λ k. k))
-
-  lowered-steady : (t : Side) → P t → (j : ℕ) → P (count_lowered j t)
-  lowered-steady t is j = changed-steady t is j (λ x. record x { count = x.count - 1 }) (λ x. (refl, refl, λ k. k))
-
-  up-steady : (t : Side) → P t → (up : Up) (m : ℕ) → P (with_up up m t)
-  up-steady t is up m = changed-steady t is m (λ x. record x { up = Some up; keep = false }) (λ x. (refl, refl, λ k. absurd cc))
 
   freed_rows-steady : (cs : List Capability) (t : Side) → P t → P (record t { vpes = all_freed cs t.vpes })
   freed_rows-steady cs t is = in_turn-keeps (λ rows. P (record t { vpes = rows })) (λ c rows. VpeRows.freed c.key.vpe c.selector rows)
@@ -176,66 +148,44 @@ module _ (P : Side → Type 0) (S : IsSteady P) where
   woken-steady vs t is = in_turn-keeps (λ ps. P (record t { parks = ps })) (λ w ps. put None ps w (Some (Ready (code_number OkCode))))
       (λ w ps here. S.wakes (record t { parks = ps }) w here) vs t.parks is
 
-  -- the job is given by its parts
-  left-steady : (T : Setup) (i id count : ℕ) (root : KeyName) (up : Option Up) (ws : List ℕ) (keep : Bool) (o : Option KeyName) (t : Side) → P t →
-      P (parent_left T i (record { id = id; root = root; up = up; waiters = ws; count = count; keep = keep }) o t)
-  left-steady T i id count root up ws keep None t is = is
-  left-steady T i id count root None ws keep (Some p) t is =
-      cond_both (is_local T i p) _ _ P (λ _. unlinked-steady p root t is) (λ _. S.sends t (owner_of T p) (Unlink p root) refl is)
-  left-steady T i id count root (Some (Local j)) ws keep (Some p) t is =
-      cond_both (is_local T i p) _ _ P (λ _. unlinked-steady p root t is) (λ _. S.sends t (owner_of T p) (Unlink p root) refl is)
-  left-steady T i id count root (Some (Remote kernel j)) ws keep (Some p) t is = cond_both (is_local T i p) _ _ P (λ _. unlinked-steady p root t is) (λ _. is)
+  region_marked-steady : (root : KeyName) (up : Option Up) (ws : List ℕ) (keep : Bool) (t : Side) → P (job_opened root up ws keep t) →
+      P (region_marked root up ws keep t)
+  region_marked-steady root up ws keep t opens =
+      let ks : List KeyName = region t.caps root in
+      let one : Side = job_opened root up ws keep t in
+      let marks : Side = mark_all ks t.next_job one in
+      S.bound marks (region_marked root up ws keep t).endpoints
+      (S.caps one marks.caps (thin-change (λ c. list_any (key_eq c.key) ks) (with_mark t.next_job) (thin-marked t.next_job) t.caps) opens)
 
-  told-steady : (up : Option Up) (t : Side) → P t → P (up_told up t)
-  told-steady None t is = is
-  told-steady (Some (Local j)) t is = lowered-steady t is j
-  told-steady (Some (Remote kernel j)) t is = S.sends t kernel (RevokeDone j) refl is
+  kept : KeepsJobs P
+  kept = record {
+    raises = λ t is j. changed-steady t is j (λ x. record x { count = x.count + 1 }) (λ x. (refl, refl, λ k. k));
+    lowers = λ t is j. changed-steady t is j (λ x. record x { count = x.count - 1 }) (λ x. (refl, refl, λ k. k));
+    ups = λ t is up m. changed-steady t is m (λ x. record x { up = Some up; keep = false }) (λ x. (refl, refl, λ k. absurd cc));
+    marks = λ t is root up. region_marked-steady root up [] false t (S.opens t root up [] is);
+    sweeps = λ t is x among. woken-steady x.waiters (swept x (job_removed x.id t)) (swept-steady x t (job_removed x.id t) is among
+        (S.jobs t (job_removed x.id t).jobs (less-filter (λ (y : JobRow). not (y.id == x.id)) t.jobs) is));
+    frees = λ t is v sel. S.frees t v sel is;
+    unlinks = λ t is p k. unlinked-steady p k t is;
+    sends = λ t is j m plain. S.sends t j m plain is;
+  }
 
   pub closed-steady : (T : Setup) (i : ℕ) (x : JobRow) (t : Side) → Contains t.jobs x → P t → P (closed T i x t)
-  unfolding closed_here
-  closed-steady T i x t among is =
-      let gone : Side = job_removed x.id t in
-      let one : P gone = S.jobs t gone.jobs (less-filter (λ (y : JobRow). not (y.id == x.id)) t.jobs) is in
-      told-steady x.up (closed_here T i x gone) (left-steady T i x.id x.count x.root x.up x.waiters x.keep (left_parent gone x) (woken x.waiters (swept x gone))
-      (woken-steady x.waiters (swept x gone) (swept-steady x t gone is among one)))
-
-  finish-steady : (T : Setup) (i n : ℕ) (o : Option JobRow) (t : Side) → ((x : JobRow) → o ≡ Some x → Contains t.jobs x) → P t → P (finish T i n o t)
-  unfolding finish
-  finish-steady T i zero o t among is = is
-  finish-steady T i (suc n) None t among is = is
-  finish-steady T i (suc n) (Some x) t among is = let t2 : Side = closed T i x t in
-      finish-steady T i n (next_done x.up t2.jobs) t2 (λ y next. next-among x.up t2.jobs y next) (closed-steady T i x t (among x refl) is)
+  closed-steady = closed-kept P kept
 
   pub settled-steady : (T : Setup) (i j : ℕ) (t : Side) → P t → P (settled T i j t)
-  settled-steady T i j t is = finish-steady T i (length t.jobs) (if_done (job t j)) t (λ y done. done-among t.jobs j y done) is
-
-  adopted-steady : (j : ℕ) (o : Option ℕ) (t : Side) → P t → P (adopted j o t)
-  adopted-steady j None t is = is
-  adopted-steady j (Some m) t is = raised-steady (with_up (Local j) m t) (up-steady t is (Local j) m) j
+  settled-steady = settled-kept P kept
 
   pub asks_for-steady : (T : Setup) (i j : ℕ) (k : KeyName) (t : Side) → P t → P (request_or_adopt T i j k t)
-  asks_for-steady T i j k t is = cond_both (is_local T i k) _ _ P (λ _. adopted-steady j (other_marker j (cap t k)) t is)
-      (λ _. raised-steady (send (owner_of T k) (RevokeReq k j) t) (S.sends t (owner_of T k) (RevokeReq k j) refl is) j)
+  asks_for-steady = asks_for-kept P kept
 
   -- a job is opened
   pub opened-steady : (T : Setup) (i : ℕ) (root : KeyName) (up : Option Up) (ws : List ℕ) (keep : Bool) (t : Side) → P (job_opened root up ws keep t) →
       P (opened T i root up ws keep t)
-  unfolding opened
-  opened-steady T i root up ws keep t opens =
-      let j : ℕ = t.next_job in
-      let ks : List KeyName = region t.caps root in
-      let one : Side = job_opened root up ws keep t in
-      let marks : P (mark_all ks j one) =
-      S.caps one (mark_all ks j one).caps (thin-change (λ c. list_any (key_eq c.key) ks) (with_mark j) (thin-marked j) t.caps) opens in
-      let marked : P (unbind_all ks (mark_all ks j one)) = S.bound (mark_all ks j one) (unbind_all ks (mark_all ks j one)).endpoints marks in
-      in_turn-keeps P (request_or_adopt T i j) (λ k u here. asks_for-steady T i j k u here) (children_of t.caps ks) (unbind_all ks (mark_all ks j one)) marked
-
-  begin-kept : (T : Setup) (i : ℕ) (root : KeyName) (up : Option Up) (ws : List ℕ) (keep : Bool) (t : Side) → P (job_opened root up ws keep t) →
-      P (begin T i root up ws keep t)
-  begin-kept T i root up ws keep t opens = settled-steady T i t.next_job (opened T i root up ws keep t) (opened-steady T i root up ws keep t opens)
+  opened-steady T i root up ws keep t opens = opened-kept P kept T i root up ws keep t (region_marked-steady root up ws keep t opens)
 
   pub begin-steady : (T : Setup) (i : ℕ) (root : KeyName) (up : Option Up) (ws : List ℕ) (t : Side) → P t → P (begin T i root up ws false t)
-  begin-steady T i root up ws t is = begin-kept T i root up ws false t (S.opens t root up ws is)
+  begin-steady T i root up ws t is = begin-kept P kept T i root up ws false t (region_marked-steady root up ws false t (S.opens t root up ws is))
 
   -- a waiting obtain gives its promise up
   pub promise_freed-steady : (t : Side) → P t → (p : Option Parked) (v : ℕ) → P (promise_freed p v t)
@@ -277,36 +227,16 @@ module _ (P : Side → Type 0) (S : IsSteady P) where
 
   pub cleared-steady : (T : Setup) (i u : ℕ) (k : KeyName) (t : Side) → P (job_opened k None (u ∷ []) true (parked_as u (RevokeWait t.next_job) t)) →
       P (clear_begun T i u k t)
-  cleared-steady T i u k t opens = begin-kept T i k None (u ∷ []) true (parked_as u (RevokeWait t.next_job) t) opens
+  cleared-steady T i u k t opens = begin-kept P kept T i k None (u ∷ []) true (parked_as u (RevokeWait t.next_job) t)
+      (region_marked-steady k None (u ∷ []) true (parked_as u (RevokeWait t.next_job) t) opens)
 
   pub requested-steady : (T : Setup) (i from j : ℕ) (k : KeyName) (o : Option Capability) (t : Side) →
       ((u : Side) → is_ready_with k (parked t k.vpe) ≡ true → u.parks ≡ t.parks → P u → P (parked_as k.vpe ObtainCancelled u)) → P t →
       P (revoke_requested T i from j k o t)
-  requested-steady T i from j k None t cancels is =
-      S.sends (obtain_cancelled k t) from (RevokeDone j) refl (cond_both (is_ready_with k (parked t k.vpe)) _ t P (λ ready. by_call ready (parked t k.vpe))
-      (λ _. is))
-    where
-      by_call : is_ready_with k (parked t k.vpe) ≡ true → (p : Option Parked) → P (parked_as k.vpe ObtainCancelled (ready_freed p k.vpe t))
-      by_call ready None = cancels t ready refl is
-      by_call ready (Some (ObtainReady key parent object sel)) = cancels (freed k.vpe sel t) ready refl (S.frees t k.vpe sel is)
-      by_call ready (Some (ObtainWait number sel)) = cancels t ready refl is
-      by_call ready (Some ObtainCancelled) = cancels t ready refl is
-      by_call ready (Some (DelegateWait parent)) = cancels t ready refl is
-      by_call ready (Some (DelegateReady parent key)) = cancels t ready refl is
-      by_call ready (Some (RevokeWait n)) = cancels t ready refl is
-      by_call ready (Some (Ready code)) = cancels t ready refl is
-  requested-steady T i from j k (Some c) t cancels is = by_mark c.mark
-    where
-      by_mark : (m : Option ℕ) → P (request_begun T i from j k m t)
-      by_mark None = begin-steady T i k (Some (Remote from j)) [] t is
-      by_mark (Some m) = up-steady t is (Remote from j) m
+  requested-steady = requested-kept P kept
 
   pub done-steady : (T : Setup) (i j : ℕ) (t : Side) → P t → P (revoke_done T i j t)
-  done-steady T i j t is = by_job (job t j)
-    where
-      by_job : (o : Option JobRow) → P (settled_if_there T i j o t)
-      by_job None = is
-      by_job (Some x) = settled-steady T i j (count_lowered j t) (lowered-steady t is j)
+  done-steady = done-kept P kept
 
   pub left_job-steady : (j v : ℕ) (t : Side) → P t → P (waiter_left j v t)
   left_job-steady j v t is =

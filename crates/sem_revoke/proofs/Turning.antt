@@ -44,7 +44,7 @@ use Rattle.sem_machine.proofs.FirstCodes.{unless-passed, unmarked-own}
 use Rattle.sem_machine.proofs.Weighing.{of_option, weigh-drop}
 use Rattle.sem_safety.proofs.Lives.{all_held, at_parked, at_side, at_message, at_inbox, at_grant, lives-inbox, lives-unparked}
 use Rattle.sem_safety.proofs.LiveWorlds.{at_world}
-use Rattle.sem_revoke.specs.Views.{free_hand, token, request, IsCaused}
+use Rattle.sem_revoke.specs.Views.{no_obligations, token, request, IsCaused}
 use Rattle.sem_revoke.specs.Scales.{Scale, sum_from, of_messages, of_side, of_inbox, of_world, bit, requesting, naming, counting, noticing, straying}
 use Rattle.sem_revoke.specs.Scales.{requesting_message, notice_message, token_message}
 use Rattle.sem_revoke.proofs.Keeping.{cases_Option}
@@ -81,7 +81,7 @@ module _ (T : Setup) (gs : List (KeyName × KeyName)) (W : World) (R : IsReady T
   abbrev now : Side
   now = side W i
 
-  abbrev pub in_row : Row here free_hand now
+  abbrev pub in_row : Row here no_obligations now
   in_row = entered T gs W R H L i
 
   -- what is known of a step
@@ -117,7 +117,7 @@ module _ (T : Setup) (gs : List (KeyName × KeyName)) (W : World) (R : IsReady T
   abbrev pub there : Scene
   there = record here { before = with_inbox None now }
 
-  row-sends : (C' : Scene) (t : Side) → Row C' free_hand t →
+  row-sends : (C' : Scene) (t : Side) → Row C' no_obligations t →
       ((k : KeyName) (c : Capability) → cap C'.before k ≡ Some c → ((d : Capability) × (cap t k ≡ Some d)) ⊎ L.lost k) →
       ((n : ℕ) (x : JobRow) → job t n ≡ Some x → IsCaused (Par gs) L.lost x) → Sends None C'.before t
   row-sends C' t S lasts caused = record {
@@ -130,10 +130,10 @@ module _ (T : Setup) (gs : List (KeyName × KeyName)) (W : World) (R : IsReady T
     caused = caused;
   }
 
-  pub by-row : (t : Side) → Row there free_hand t → Kept t
+  pub by-row : (t : Side) → Row there no_obligations t → Kept t
   by-row t S = λ _. (leave there t S, row-sends there t S S.lasts S.caused)
 
-  pub row-step : (t : Side) → Row here free_hand t → Holds T (more T gs W R H L i None) (with_side i t W) × Sends None now t
+  pub row-step : (t : Side) → Row here no_obligations t → Holds T (more T gs W R H L i None) (with_side i t W) × Sends None now t
   row-step t S = (more-none T gs W R H L i (with_side i t W) (left T gs W R H L i t S), row-sends here t S S.lasts S.caused)
 
   absent-now : (k : KeyName) → (Made T gs k → ⊥) → cap now k ≡ None
@@ -175,8 +175,8 @@ module _ (T : Setup) (gs : List (KeyName × KeyName)) (W : World) (R : IsReady T
       (call_counted v now) v c quiet (grown-vpes (owner_of T) i now (link_of T gs W R H L i o now now) F.valid absent parent now _
       (grown-start (owner_of T) i now (link_of T gs W R H L i o now now) F.valid absent parent valid-now)) (λ p k is. is))
 
-  pub counted-row : (v : ℕ) → Row here free_hand (call_counted v now)
-  counted-row v = rows-changed here free_hand now _ now.endpoints now.parks (λ k. omega arith) in_row
+  pub counted-row : (v : ℕ) → Row here no_obligations (call_counted v now)
+  counted-row v = rows-changed here no_obligations now _ now.endpoints now.parks (λ k. omega arith) in_row
 
   pub by-call : (v : ℕ) (c : Call) → CallLoses gs L.lost (call_counted v now) v c → Keeps (call_row T i (call_counted v now) v c)
   unfolding call_row
@@ -292,9 +292,9 @@ module _ (T : Setup) (gs : List (KeyName × KeyName)) (W : World) (R : IsReady T
       },
     )
 
-    -- the message is taken out, and nothing comes into the hand
-    taken : ((k : KeyName) (a b : ℕ) → requesting_message k a b from i m ≡ 0) → ((a b : ℕ) → token_message a b from i m ≡ 0) → Row there free_hand base
-    taken quiet tokenless = row-taken here free_hand now from m full (λ k a b more'. let none = quiet k a b in
+    -- the message is taken out, and the row owes nothing for it
+    taken : ((k : KeyName) (a b : ℕ) → requesting_message k a b from i m ≡ 0) → ((a b : ℕ) → token_message a b from i m ≡ 0) → Row there no_obligations base
+    taken quiet tokenless = row-taken here no_obligations now from m full (λ k a b more'. let none = quiet k a b in
         omega (arith, none, more')) (λ a b. sym (tokenless a b)) (λ k a b care. absurd care) in_row
 
     -- what the message weighs is in the inbox
@@ -323,10 +323,10 @@ module _ (T : Setup) (gs : List (KeyName × KeyName)) (W : World) (R : IsReady T
         )
 
     orphaned : (parent key : KeyName) → at_message key m ≡ 1 → ((k : KeyName) (a b : ℕ) → requesting_message k a b from i m ≡ 0) → (t : Side) →
-        Row there free_hand t → ((IsGone there base key × Made T gs key) → IsGone there t key × Made T gs key) →
+        Row there no_obligations t → ((IsGone there base key × Made T gs key) → IsGone there t key × Made T gs key) →
         Kept (send (owner here parent) (Orphan parent key) t)
     orphaned parent key one quiet t K moves = by-row (send (owner here parent) (Orphan parent key) t)
-        (row-sent there free_hand free_hand t (owner here parent) (Orphan parent key) (λ k a b. refl) (λ k. refl) refl (λ a b. refl) (λ a b k alive care. care)
+        (row-sent there no_obligations no_obligations t (owner here parent) (Orphan parent key) (λ k a b. refl) (λ k. refl) refl (λ a b. refl) (λ a b k alive care. care)
         (λ a b k care. care) (λ a n loose. loose)
         (λ k more'. let same : key ≡ k = key_eq-true key k (one-more (key_eq key k) more') in
         subst (λ z. IsGone there t z × Made T gs z) same (moves (lost key one))) K)
@@ -353,10 +353,10 @@ module _ (T : Setup) (gs : List (KeyName × KeyName)) (W : World) (R : IsReady T
       freed-caps (Some (RevokeWait j)) = refl
       freed-caps (Some (Ready code)) = refl
 
-  -- a request is in the hand: of a key of this kernel, from another one, which marks its parent
-  pub request-hand : (from : ℕ) (k : KeyName) (j : ℕ) → now.inbox ≡ Some (from, RevokeReq k j)
+  -- the row owes a request: of a key of this kernel, from another one, which marks its parent
+  pub request-owed : (from : ℕ) (k : KeyName) (j : ℕ) → now.inbox ≡ Some (from, RevokeReq k j)
       → (owner here k ≡ i) × (from ≢ i) × IsUnder there (with_inbox None now) k from j × Row there (request k from j) (with_inbox None now)
-  request-hand from k j full =
+  request-owed from k j full =
       let w = weighs from (RevokeReq k j) full (straying (owner here)) in
       let none = in_row.revokes.placed in
       let test : ((owner here k == i) && not (owner here k == from)) ≡ true =
@@ -384,25 +384,25 @@ module _ (T : Setup) (gs : List (KeyName × KeyName)) (W : World) (R : IsReady T
       placed-test false none = absurd (omega (arith, none))
 
   by-request : (from : ℕ) (k : KeyName) (j : ℕ) → now.inbox ≡ Some (from, RevokeReq k j) →
-      Row there free_hand (handle_row T i (with_inbox None now) from (RevokeReq k j))
+      Row there no_obligations (handle_row T i (with_inbox None now) from (RevokeReq k j))
   unfolding handle_row
   by-request from k j full =
-      let hand = request-hand from k j full in
-      row-requested there k from j (with_inbox None now) hand.0 hand.1 hand.2 hand.3
+      let owes = request-owed from k j full in
+      row-requested there k from j (with_inbox None now) owes.0 owes.1 owes.2 owes.3
       (λ none'. (
-        hold-here there (obtain_cancelled k (with_inbox None now)) k hand.0
+        hold-here there (obtain_cancelled k (with_inbox None now)) k owes.0
             ∙ (ap (λ (cs : List Capability). cap_of cs k) (cancelled-caps k (with_inbox None now)) ∙ none'),
         let late = R.late i from j k full none' in let parts' = gifts-parts there k (obtain_cancelled k (with_inbox None now)) in omega (arith, late, parts'),
       ))
 
-  -- a token is in the hand
-  pub token-hand : (from j : ℕ) → now.inbox ≡ Some (from, RevokeDone j) → Row there (token i j) (with_inbox None now)
-  token-hand from j full = row-taken here (token i j) now from (RevokeDone j) full (λ k a b more'. absurd (omega (arith, more'))) (λ a b. refl)
+  -- the row owes a token
+  pub token-owed : (from j : ℕ) → now.inbox ≡ Some (from, RevokeDone j) → Row there (token i j) (with_inbox None now)
+  token-owed from j full = row-taken here (token i j) now from (RevokeDone j) full (λ k a b more'. absurd (omega (arith, more'))) (λ a b. refl)
       (λ k a b care. absurd care) in_row
 
-  by-token : (from j : ℕ) → now.inbox ≡ Some (from, RevokeDone j) → Row there free_hand (handle_row T i (with_inbox None now) from (RevokeDone j))
+  by-token : (from j : ℕ) → now.inbox ≡ Some (from, RevokeDone j) → Row there no_obligations (handle_row T i (with_inbox None now) from (RevokeDone j))
   unfolding handle_row
-  by-token from j full = row-done there j (with_inbox None now) (token-hand from j full)
+  by-token from j full = row-done there j (with_inbox None now) (token-owed from j full)
 
   by-message : (from : ℕ) (m : Message) → now.inbox ≡ Some (from, m) → Kept (handled T i (with_inbox None now) from m)
   unfolding handle_row
@@ -428,7 +428,7 @@ module _ (T : Setup) (gs : List (KeyName × KeyName)) (W : World) (R : IsReady T
       b : Side
       b = with_inbox None now
 
-      K : Row there free_hand b
+      K : Row there no_obligations b
       K = taken from m full (λ k a c. refl) (λ a c. refl)
   by-message from (ObtainNo place code) full =
       by-growth from (ObtainNo place code) full refl _ (cond_both (is_stray T i b (ObtainNo place code)) b _ (GrownBy from (ObtainNo place code) full) (λ _. G)
@@ -478,7 +478,7 @@ module _ (T : Setup) (gs : List (KeyName × KeyName)) (W : World) (R : IsReady T
       b : Side
       b = with_inbox None now
 
-      K : Row there free_hand b
+      K : Row there no_obligations b
       K = taken from m full (λ k a c. refl) (λ a c. refl)
 
       one : at_message key m ≡ 1
@@ -490,7 +490,7 @@ module _ (T : Setup) (gs : List (KeyName × KeyName)) (W : World) (R : IsReady T
           (λ _. by-growth from m full refl (installed key (Some p.parent) p.sel p.object (pending_removed key b))
           (held-installed (owner_of T) i b _ _ _ _ key b p (coming-absent key (let sum = gift-taken from m full key in omega (arith, sum, one)))
           (begun from m full)))
-          (λ _. orphaned from m full p.parent key one (λ k a c. refl) (pending_removed key b) (pendings-row there free_hand b _ K) (λ is. is))
+          (λ _. orphaned from m full p.parent key one (λ k a c. refl) (pending_removed key b) (pendings-row there no_obligations b _ K) (λ is. is))
   by-message from (Ack key false) full =
       by-growth from (Ack key false) full refl _ (cond_both (is_stray T i b (Ack key false)) b _ (GrownBy from (Ack key false) full) (λ _. G)
       (λ _. option-keeps (GrownBy from (Ack key false) full) (acknowledged T key false b) (pending b key) b
@@ -503,13 +503,13 @@ module _ (T : Setup) (gs : List (KeyName × KeyName)) (W : World) (R : IsReady T
       G = begun from (Ack key false) full
   by-message from (Orphan parent key) full =
       by-row _ (row-unlinked there (with_inbox None now) parent key
-      (gone-said from (Orphan parent key) full key (omega (arith, one-true (key_eq key key) (key_eq-same key)))) free_hand
+      (gone-said from (Orphan parent key) full key (omega (arith, one-true (key_eq key key) (key_eq-same key)))) no_obligations
       (taken from (Orphan parent key) full (λ k a c. refl) (λ a c. refl)))
   by-message from (RevokeReq key j) full = by-row _ (by-request from key j full)
   by-message from (RevokeDone j) full = by-row _ (by-token from j full)
   by-message from (Unlink parent key) full =
       by-row _ (row-unlinked there (with_inbox None now) parent key
-      (gone-said from (Unlink parent key) full key (omega (arith, one-true (key_eq key key) (key_eq-same key)))) free_hand
+      (gone-said from (Unlink parent key) full key (omega (arith, one-true (key_eq key key) (key_eq-same key)))) no_obligations
       (taken from (Unlink parent key) full (λ k a c. refl) (λ a c. refl)))
 
   pub by-inbox : (o : Option (ℕ × Message)) → now.inbox ≡ o → Kept (option_map_or (λ m. handled T i (with_inbox None now) m.0 m.1) o now)

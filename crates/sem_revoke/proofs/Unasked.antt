@@ -46,7 +46,7 @@ use Rattle.sem_machine.specs.Calls.{bind_tests, call_row}
 use Rattle.sem_machine.specs.Upcalls.{given, given_kind, given_here, ask_decided, upcall_row}
 use Rattle.sem_machine.specs.Handles.{is_stray, obtain_ready, acknowledged, handle_row, handled}
 use Rattle.sem_machine.specs.Resumes.{delegate_granted, delegate_resumed, resumed, resume_row}
-use Rattle.sem_machine.specs.Ends.{ask_ended, call_ended, keys_of, revoked_if_left, ended}
+use Rattle.sem_machine.specs.Ends.{ask_ended, call_ended, keys_of_vpe, revoked_if_left, ended}
 use Rattle.sem_machine.specs.Machine.{vpe_added, root_added, vpe_fresh}
 use Rattle.sem_machine.proofs.Folds.{in_turn-keeps, option-keeps}
 use Rattle.sem_machine.proofs.FirstCodes.{unless-keeps, unless-passed}
@@ -149,7 +149,7 @@ module _ (T : Setup) (i : ℕ) where
       in_turn-keeps Unasked (ask_ended T i) (λ a t here. cond_both (is_unawaited T i t a) t (ask_refused T i Dead a t) Unasked (λ _. here)
       (λ _. refused-kept T i Dead a t here)) asks (buried v s) (buried-kept s v is) in
       let last : Side = call_ended T (parked answered v) v (unparked v answered) in
-      in_turn-keeps Unasked (revoked_if_left T i) (λ k t here. rest-steady Unasked steady T i k t here) (keys_of last v) last
+      in_turn-keeps Unasked (revoked_if_left T i) (λ k t here. rest-steady Unasked steady T i k t here) (keys_of_vpe last v) last
       (owes (parked answered v) (unparked v answered) told)
     where
       owes : (p : Option Parked) (t : Side) → Unasked t → Unasked (call_ended T p v t)

@@ -21,13 +21,13 @@ use Rattle.sem_machine.specs.Sides.{Side, no_side, cap, job, outbox, job_changed
 use Rattle.sem_machine.specs.Machine.{World, side, with_side}
 use Rattle.sem_key.proofs.KeyTests.{key_eq-true}
 use Rattle.sem_key.proofs.Members.{AllPairs-from_map, found}
-use Rattle.sem_safety.specs.Seen.{AreDistinct, Seen}
+use Rattle.sem_safety.specs.Observations.{AreDistinct, ObservedSide}
 use Rattle.sem_safety.proofs.Updates.{seen-job_changed, seen-send}
 use Rattle.sem_machine.proofs.Weighing.{weigh-among}
 use Rattle.sem_safety.proofs.Lives.{at_message, at_parked, at_side, lives-send}
 use Rattle.sem_safety.proofs.LiveWorlds.{at_world}
 use Rattle.sem_safety.proofs.JobIds.{HasIds}
-use Rattle.sem_revoke.specs.Views.{View, Hand, IsAlone, IsCaused, Alive, Gone, Marked, Under, Caught, IsFit, Revokes, IsSingle}
+use Rattle.sem_revoke.specs.Views.{View, Obligations, IsAlone, IsCaused, Alive, Gone, Marked, Under, Caught, IsFit, Revokes, IsSingle}
 use Rattle.sem_revoke.specs.Scales.{Scale, of_side, of_world, bit, requesting, naming, counting, noticing, straying, requesting_message, token_message}
 use Rattle.sem_revoke.specs.Scales.{notice_message, stray_message}
 use Rattle.sem_revoke.proofs.Keeping.{HoldsOn, holds-same, fit-on, keep}
@@ -133,10 +133,10 @@ module _ (C : Scene) where
   }
     where
       out : (q : ℕ) → outbox (send j m s) q ≡ (if q == j then outbox s j ++ m ∷ [] else outbox s q)
-      out q = ap (λ (z : Seen). z.outbox q) (seen-send j m s)
+      out q = ap (λ (z : ObservedSide). z.outbox q) (seen-send j m s)
 
   -- what is so in the middle of a row
-  pub record Row (h : Hand) (s : Side) : Type 0 where
+  pub record Row (h : Obligations) (s : Side) : Type 0 where
     pub fit : IsFit owner C.parent C.made (view s)
     pub revokes : Revokes owner C.parent C.made h (view s)
     pub rises : Rises s.caps
@@ -207,7 +207,7 @@ module _ (C : Scene) where
 
   pub changed-job : (s : Side) (m : ℕ) (f : JobRow → JobRow) → ((x : JobRow) → ((f x).id ≡ x.id) × ((f x).root ≡ x.root)) → (n : ℕ) →
       job (job_changed m f s) n ≡ (if n == m then option_map f (job s n) else job s n)
-  changed-job s m f same n = ap (λ (z : Seen). z.job n) (seen-job_changed m f s (λ x. (same x).0))
+  changed-job s m f same n = ap (λ (z : ObservedSide). z.job n) (seen-job_changed m f s (λ x. (same x).0))
 
   pub changed-roots : (s : Side) (m : ℕ) (f : JobRow → JobRow) → ((x : JobRow) → ((f x).id ≡ x.id) × ((f x).root ≡ x.root)) →
       ((x : JobRow) → job s m ≡ Some x → StaysSo x (f x)) → SameRoots s (job_changed m f s)
@@ -248,7 +248,7 @@ module _ (C : Scene) where
   }
 
   -- Steps that change no capability, and no root of a job.
-  pub step_from : (h h' : Hand) (s t : Side)
+  pub step_from : (h h' : Obligations) (s t : Side)
       → HoldsOn owner C.parent C.one_parent C.made (view s) (view t)
       → SameRoots s t
       → Rises t.caps → HasIds t → ((k : KeyName) (c : Capability) → cap t k ≡ Some c → owner k ≡ C.kernel) → IsSent t
@@ -276,7 +276,7 @@ module _ (C : Scene) where
     lasts = lasts;
   }
 
-  pub step : (h h' : Hand) (s t : Side)
+  pub step : (h h' : Obligations) (s t : Side)
       → HoldsOn owner C.parent C.one_parent C.made (view s) (view t)
       → SameRoots s t
       → Rises t.caps → HasIds t → ((k : KeyName) (c : Capability) → cap t k ≡ Some c → owner k ≡ C.kernel) → IsSent t
@@ -310,7 +310,7 @@ module _ (C : Scene) where
   ))
 
   -- What is kept of the VPEs changes, with endpoints and parked calls, and nothing comes on its way.
-  pub rows-changed : (h : Hand) (s : Side) (vs : List VpeRow) (es : List (List (Option Endpoint))) (ps : List (Option Parked))
+  pub rows-changed : (h : Obligations) (s : Side) (vs : List VpeRow) (es : List (List (Option Endpoint))) (ps : List (Option Parked))
       → ((k : KeyName) → sum_by (at_parked k) ps ≤ sum_by (at_parked k) s.parks) → Row h s → Row h (record s { vpes = vs; endpoints = es; parks = ps })
   rows-changed h s vs es ps few R =
       step h h s (record s { vpes = vs; endpoints = es; parks = ps })
@@ -328,7 +328,7 @@ module _ (C : Scene) where
       R
 
   -- The pending delegations change.
-  pub pendings-row : (h : Hand) (s : Side) (ps : List Pending) → Row h s → Row h (record s { pendings = ps })
+  pub pendings-row : (h : Obligations) (s : Side) (ps : List Pending) → Row h s → Row h (record s { pendings = ps })
   pendings-row h s ps R =
       step h h s (record s { pendings = ps })
       (holds-same owner C.parent C.one_parent C.made (view s) (view (record s { pendings = ps })) (λ k. refl) (λ k. omega arith))
@@ -344,7 +344,7 @@ module _ (C : Scene) where
       R
 
   -- A message is sent that asks for nothing and gives nothing.
-  pub row-sent : (h h' : Hand) (s : Side) (j : ℕ) (m : Message)
+  pub row-sent : (h h' : Obligations) (s : Side) (j : ℕ) (m : Message)
       → ((k : KeyName) (a b : ℕ) → requesting_message k a b C.kernel j m ≡ 0)
       → ((k : KeyName) → at_message k m ≡ 0)
       → stray_message owner C.kernel j m ≡ 0
@@ -394,14 +394,14 @@ module _ (C : Scene) where
             inr ((is.0.0, omega (arith, sum', none, gone)), is.1)
       ]
 
-  -- the hand changes alone
-  pub rehand : (h h' : Hand) (s : Side)
+  -- what the row owes changes alone
+  pub obligations-changed : (h h' : Obligations) (s : Side)
       → ((k : KeyName) (a b : ℕ) → IsAlive s k → IsUnder s k a b → h.cares a b k → Caught owner C.parent C.made h' (view s) a b k)
       → ((k : KeyName) (a b : ℕ) → h'.cares a b k → h.cares a b k)
       → ((a n : ℕ) → h.loose a n → h'.loose a n)
       → ((a b : ℕ) → h'.owed a b ≡ h.owed a b)
       → Row h s → Row h' s
-  rehand h h' s cares cared loose owed R =
+  obligations-changed h h' s cares cared loose owed R =
       step h h' s s (holds-same owner C.parent C.one_parent C.made (view s) (view s) (λ k. refl) (λ k. omega arith)) (no-roots s s refl) R.rises R.ids R.homes
       R.sent
       (λ k a b alive under before. elim before [ inl more ↦ inr (inl more) | inr care ↦ cares k a b alive under care ])
@@ -416,14 +416,14 @@ module _ (C : Scene) where
   -- What jobs mark.
 
   -- each job has a cause
-  pub all-caused : (h : Hand) (s : Side) → Row h s → (a n : ℕ) (x : JobRow) → (view s).job a n ≡ Some x → IsCaused C.parent C.lost x
+  pub all-caused : (h : Obligations) (s : Side) → Row h s → (a n : ℕ) (x : JobRow) → (view s).job a n ≡ Some x → IsCaused C.parent C.lost x
   all-caused h s R a n x open_ = elim (cases_eq a C.kernel) [
     | inl here ↦ R.caused n x (sym (cond-true (a == C.kernel) (job s n) (job (side C.world a) n) (eq-eqb a C.kernel here)) ∙ open_)
     | inr away ↦ C.others a n x (sym (job-away s a n away) ∙ open_)
   ]
 
   -- so a child of what is marked is lost
-  below-mark : (h : Hand) (s : Side) → Row h s → (m : ℕ) (p k : KeyName) (n : ℕ) → C.rank p ≤ m → IsMarked s p n → C.parent p k → C.lost k
+  below-mark : (h : Obligations) (s : Side) → Row h s → (m : ℕ) (p k : KeyName) (n : ℕ) → C.rank p ≤ m → IsMarked s p n → C.parent p k → C.lost k
   below-mark h s R zero p k n few marked granted =
       let x = R.revokes.marks p n marked in
       elim x.2 [
@@ -437,11 +437,11 @@ module _ (C : Scene) where
         | inr (q, above, at, marked') ↦ C.lower p k granted (below-mark h s R m q p n (let less = C.older q p above in omega (arith, few, less)) marked' above)
       ]
 
-  pub under-lost : (h : Hand) (s : Side) → Row h s → (k : KeyName) (a b : ℕ) → IsUnder s k a b → C.lost k
+  pub under-lost : (h : Obligations) (s : Side) → Row h s → (k : KeyName) (a b : ℕ) → IsUnder s k a b → C.lost k
   under-lost h s R k a b (p, granted, at, marked) = below-mark h s R (C.rank p) p k b (omega arith) marked granted
 
   -- what a job marks is lost, but for a root that it keeps
-  pub mark-lost : (h : Hand) (s : Side) → Row h s → (k : KeyName) (n : ℕ) (x : JobRow) → IsMarked s k n → (view s).job (owner k) n ≡ Some x →
+  pub mark-lost : (h : Obligations) (s : Side) → Row h s → (k : KeyName) (n : ℕ) (x : JobRow) → IsMarked s k n → (view s).job (owner k) n ≡ Some x →
       (x.root ≡ k → x.keep ≡ false) → C.lost k
   mark-lost h s R k n x marked open_ leaves =
       let y = R.revokes.marks k n marked in

@@ -40,7 +40,7 @@ use Rattle.sem_machine.specs.Ends.{call_ended, revoked_if_left}
 use Rattle.sem_key.proofs.Members.{Contains-nil, Contains-cons_cases, Contains-filter, Contains-from_filter, Contains-from_map}
 use Rattle.sem_key.proofs.Regions.{reached_cap, region-exact}
 use Rattle.sem_safety.proofs.JobIds.{done-among, next-among}
-use Rattle.sem_safety.specs.Seen.{Seen, at}
+use Rattle.sem_safety.specs.Observations.{ObservedSide, at}
 use Rattle.sem_machine.proofs.Folds.{in_turn-keeps}
 use Rattle.sem_safety.proofs.Updates.{seen-mark_all, seen-cap_changed}
 use Rattle.sem_revoke.proofs.Viewing.{Rises, rises_distinct}
@@ -224,7 +224,7 @@ module _ (pend : ℕ → KeyName → KeyName → Type 0) where
     begun-caps : (q : KeyName) (c : Capability) → cap begun q ≡ Some c → (d : Capability) × (cap s q ≡ Some d)
         × (((d.mark ≡ None) × (c.mark ≡ Some j)) ⊎ (c.mark ≡ d.mark)) × (c.children ≡ d.children)
     begun-caps q c held =
-        let seen = ap (λ (z : Seen). z.cap q) (seen-mark_all ks j (job_opened root up vs keep s)) in
+        let seen = ap (λ (z : ObservedSide). z.cap q) (seen-mark_all ks j (job_opened root up vs keep s)) in
         elim (cases_Bool (has_key ks q)) [
           | inl inside ↦
               let d = reached_cap s.caps root q ((region-exact s.caps root q R.rises).0 inside) in
@@ -266,7 +266,7 @@ module _ (pend : ℕ → KeyName → KeyName → Type 0) where
         let d = begun-caps root c held in
         let none = fresh_root d.0 d.1 in
         let inside : has_key ks root ≡ true = (region-exact s.caps root root R.rises).1 (at_root d.0 d.1 none) in
-        let seen = ap (λ (z : Seen). z.cap root) (seen-mark_all ks j (job_opened root up vs keep s)) in
+        let seen = ap (λ (z : ObservedSide). z.cap root) (seen-mark_all ks j (job_opened root up vs keep s)) in
         let is : Some (record d.0 { mark = Some j }) ≡ Some c = sym (ap (option_map {T = Capability} (λ x. record x { mark = Some j })) d.1)
         ∙ (sym (seen ∙ cond-true (has_key ks root) (option_map {T = Capability} (λ x. record x { mark = Some j }) (cap s root)) (cap s root) inside)
         ∙ held) in
@@ -346,7 +346,7 @@ module _ (pend : ℕ → KeyName → KeyName → Type 0) where
         by false leaves (before, unmarked) = inl (before, unmarked)
         by true keeps (before, unmarked) =
             let f : Capability → Capability = λ d. record d { children = []; mark = None } in
-            let seen = ap (λ (z : Seen). z.cap q) (seen-cap_changed x.root f s (λ d. refl)) in
+            let seen = ap (λ (z : ObservedSide). z.cap q) (seen-cap_changed x.root f s (λ d. refl)) in
             elim (cases_Bool (key_eq q x.root)) [
               | inl same ↦ cleared-from q c (key_eq-true q x.root same) keeps (cap s q) refl (sym (seen
                   ∙ cond-true (key_eq q x.root) (option_map f (cap s q)) (cap s q) same) ∙ before)

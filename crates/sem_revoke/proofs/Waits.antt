@@ -19,7 +19,7 @@ use Rattle.sem_machine.specs.Asks.{waits_for}
 use Rattle.sem_key.specs.Region.{has_key}
 use Rattle.sem_machine.specs.Revokes.{all_woken}
 use Rattle.sem_key.proofs.Members.{Contains-nil, Contains-head, Contains-tail, Contains-cons_cases, Contains-from_filter}
-use Rattle.sem_safety.specs.Seen.{Seen, at}
+use Rattle.sem_safety.specs.Observations.{ObservedSide, at}
 use Rattle.sem_safety.proofs.Updates.{seen-with_row, seen-cap_changed}
 use Rattle.sem_key.proofs.Puts.{get_or-put_same, get_or-put_other}
 use Rattle.sem_key.proofs.KeyTests.{Contains-from_has_key, has_key-from_Contains}
@@ -146,7 +146,7 @@ still-none ks q k none =
 pub unlinked-caps : (s : Side) (p q k r : KeyName) → CapsOn k r s (unlinked p q s)
 unlinked-caps s p q k r c held =
     let f : Capability → Capability = λ (x : Capability). record x { children = without_key x.children q } in
-    let seen = ap (λ (z : Seen). z.cap r) (seen-cap_changed p f s (λ x. refl)) in
+    let seen = ap (λ (z : ObservedSide). z.cap r) (seen-cap_changed p f s (λ x. refl)) in
     elim (cases_Bool (key_eq r p)) [
       | inl same ↦
           let d = unlinked-mapped q (cap s r) c (sym (seen ∙ cond-true (key_eq r p) (option_map f (cap s r)) (cap s r) same) ∙ held) in
@@ -196,4 +196,4 @@ wait-id a b same = ap number (same_Some (RevokeWait a) (RevokeWait b) same)
 
 -- what is kept of a VPE that is alive no more
 pub row-at : (v : ℕ) (f : VpeRow → VpeRow) (s : Side) (w : ℕ) → row (with_row v f s) w ≡ at v (f (row s v)) (row s) w
-row-at v f s w = ap (λ (z : Seen). z.row w) (seen-with_row v f s)
+row-at v f s w = ap (λ (z : ObservedSide). z.row w) (seen-with_row v f s)

@@ -19,7 +19,7 @@ use Rattle.sem_machine.proofs.Weighing.{weigh-among, weigh-none}
 use Rattle.sem_safety.proofs.Lives.{all_held, at_cap, at_side}
 use Rattle.sem_safety.proofs.LiveWorlds.{at_world, world-side}
 use Rattle.sem_safety.proofs.JobIds.{HasIds}
-use Rattle.sem_revoke.specs.Views.{View, free_hand, Alive, Gone, Marked, Under, Leads, IsFit, Revokes, IsCaused}
+use Rattle.sem_revoke.specs.Views.{View, no_obligations, Alive, Gone, Marked, Under, Leads, IsFit, Revokes, IsCaused}
 use Rattle.sem_revoke.specs.Scales.{of_world, requesting, naming, counting, noticing, straying}
 use Rattle.sem_revoke.proofs.Keeping.{HoldsOn, holds-same, fit-on, keep, cases_Option}
 use Rattle.sem_revoke.proofs.Scaling.{world-parts, world-whole}
@@ -57,8 +57,8 @@ module _ (own : KeyName → ℕ) (G : KeyName → KeyName → Type 0) (one : (p 
   pub fit-same : IsFit own G M V → IsFit own G M U
   fit-same fit = fit-on own G one M V U same-holds fit
 
-  pub revokes-same : IsFit own G M V → Revokes own G M free_hand V → Revokes own G M free_hand U
-  revokes-same fit R = keep own G one M V U same-holds free_hand free_hand fit R
+  pub revokes-same : IsFit own G M V → Revokes own G M no_obligations V → Revokes own G M no_obligations U
+  revokes-same fit R = keep own G one M V U same-holds no_obligations no_obligations fit R
       (λ k a b alive under before. elim before [ inl more ↦ (let same = S.asked k a b in inr (inl (omega (arith, same, more)))) | inr care ↦ absurd care ])
       (λ k a b more. let same = S.asked k a b in inl (omega (arith, same, more)))
       (λ k n x marked open_. (x, S.job (own k) n ∙ open_, refl))
@@ -128,11 +128,11 @@ module _ (C : Scene) where
   }
 
   -- what is so of the world is so of the side in it
-  pub enter : IsFit (owner C) C.parent C.made (whole C.setup C.world) → Revokes (owner C) C.parent C.made free_hand (whole C.setup C.world) →
+  pub enter : IsFit (owner C) C.parent C.made (whole C.setup C.world) → Revokes (owner C) C.parent C.made no_obligations (whole C.setup C.world) →
       Rises (side C.world i).caps → HasIds (side C.world i) → ((k : KeyName) (c : Capability) → cap (side C.world i) k ≡ Some c → owner C k ≡ i) →
       IsSent C (side C.world i) → ((n : ℕ) (x : JobRow) → job (side C.world i) n ≡ Some x → IsCaused C.parent C.lost x) →
       ((k : KeyName) (c : Capability) → cap C.before k ≡ Some c → ((d : Capability) × (cap (side C.world i) k ≡ Some d)) ⊎ C.lost k) →
-      Row C free_hand (side C.world i)
+      Row C no_obligations (side C.world i)
   enter fit R rises ids homes sent' caused lasts = record {
     fit = fit-same (owner C) C.parent C.one_parent C.made (whole C.setup C.world) (view C (side C.world i)) same-entering fit;
     revokes = revokes-same (owner C) C.parent C.one_parent C.made (whole C.setup C.world) (view C (side C.world i)) same-entering fit R;
@@ -144,7 +144,7 @@ module _ (C : Scene) where
     lasts = lasts;
   }
 
-  pub leave : (t : Side) → Row C free_hand t → Revokes (owner C) C.parent C.made free_hand (whole C.setup (with_side i t C.world))
+  pub leave : (t : Side) → Row C no_obligations t → Revokes (owner C) C.parent C.made no_obligations (whole C.setup (with_side i t C.world))
   leave t R = revokes-same (owner C) C.parent C.one_parent C.made (view C t) (whole C.setup (with_side i t C.world)) (same-leaving t) R.fit R.revokes
 
 -- What is alive, counted.
@@ -242,7 +242,7 @@ module _ (own : KeyName → ℕ) (G G' : KeyName → KeyName → Type 0) (one : 
     pub notices : (k : KeyName) → U.notices k ≡ V.notices k
     pub misplaced : U.misplaced ≡ V.misplaced
 
-  module _ (V U : View) (S : Grows V U) (links : (p k : KeyName) → Leads own G M V p k → G p k) (R : Revokes own G M free_hand V) where
+  module _ (V U : View) (S : Grows V U) (links : (p k : KeyName) → Leads own G M V p k → G p k) (R : Revokes own G M no_obligations V) where
     marked-on : (k : KeyName) (n : ℕ) → Marked own G M V k n → Marked own G' M' U k n
     marked-on k n (c, held, marked) = let e = S.on k c held in (e.0, e.1, e.2 ∙ marked)
 
@@ -257,7 +257,7 @@ module _ (own : KeyName → ℕ) (G G' : KeyName → KeyName → Type 0) (one : 
         let no' : Some n ≡ None = sym marked ∙ (ap (λ (x : Capability). x.mark) same ∙ made.2) in
         absurd cc
 
-    pub revokes-grown : Revokes own G' M' free_hand U
+    pub revokes-grown : Revokes own G' M' no_obligations U
     revokes-grown = record {
       linked = λ p k granted alive. elim (S.alive k alive) [
         | inl before ↦ elim (S.less p k granted) [

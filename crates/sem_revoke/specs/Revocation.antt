@@ -4,7 +4,7 @@ use Rattle.std.specs.Prelude.{◌≡◌, ℕ, ◌≤◌, true, false, ◌⊎◌,
 use Rattle.sem_machine.specs.Prelude.{Object, KeyName, PlaceName, Capability, VpeDecl, Handle, Upcall, Entry, Message}
 use Rattle.sem_machine.specs.Prelude.{ObtainReq, ObtainOk, Ack, Orphan, RevokeReq, Unlink, ObtainAsk, ObtainWait}
 use Rattle.sem_machine.specs.Prelude.{ObtainReady, RevokeWait, Ready, JobRow, Setup, owner_of, kernel_of, row, job}
-use Rattle.sem_machine.specs.Prelude.{parked, World, side, world_after, grants, root_keys, made, line, has_ended}
+use Rattle.sem_machine.specs.Prelude.{parked, World, side, world_after, grants, root_keys, made, ancestry, has_ended}
 use Rattle.sem_machine.specs.Prelude.{forest, InFlight, HoldsCap, IsLive}
 use Rattle.sem_msg.specs.declared.message.Target.{Target}
 use Rattle.sem_msg.specs.Lookups.{pe_owner}
@@ -28,13 +28,13 @@ abbrev pub held_at_home : Setup → List Entry → Type 0
 held_at_home T J = (i : ℕ) (k : KeyName) (c : Capability) → HoldsCap (world_after T J) i k c → owner_of T k ≡ i
 
 -- the parent of a live key is held, and has a link to it
-abbrev pub linked : Setup → List Entry → Type 0
-linked T J = (p k : KeyName) → IsLive (world_after T J) k → Contains (grants J) (p, k) →
+abbrev pub live_are_linked : Setup → List Entry → Type 0
+live_are_linked T J = (p k : KeyName) → IsLive (world_after T J) k → Contains (grants J) (p, k) →
     (c : Capability) × HoldsCap (world_after T J) (owner_of T p) p c × Contains c.children k
 
 -- so every ancestor of a key in use is held, except the key itself
 abbrev pub ancestors_held : Setup → List Entry → Type 0
-ancestors_held T J = (k a : KeyName) → IsInUse (world_after T J) k → Contains (line J k) a →
+ancestors_held T J = (k a : KeyName) → IsInUse (world_after T J) k → Contains (ancestry J k) a →
     (k ≡ a) ⊎ IsHeldAtHome T (world_after T J) a
 
 -- a key that an Orphan or an Unlink in flight names is dead
@@ -119,7 +119,7 @@ revokers_wait T J = (v : ℕ) (ks : List KeyName) (k : KeyName) → Contains (hi
 
 -- an ancestor of the key was cut off, or belongs to a VPE that has ended; a key is its own ancestor
 abbrev pub IsDoomed : List Entry → KeyName → Type 0
-IsDoomed J k = (a : KeyName) × Contains (line J k) a × IsCutOff J a
+IsDoomed J k = (a : KeyName) × Contains (ancestry J k) a × IsCutOff J a
 
 -- a key that a kernel holds stays held, unless it is doomed
 abbrev pub held_unless_doomed : Setup → List Entry → Type 0
@@ -200,7 +200,8 @@ IsPlaceAwaited T W place = is_alive (side W (kernel_of T place.vpe)) place.vpe �
 -- a queued or travelling ask of an obtain is awaited
 abbrev pub asks_awaited : Setup → List Entry → Type 0
 asks_awaited T J = (i u : ℕ) (place : PlaceName) (target : Target) →
-    Contains (row (side (world_after T J) i) u).asks (ObtainAsk place target) → IsPlaceAwaited T (world_after T J) place
+    Contains (row (side (world_after T J) i) u).asks (ObtainAsk place target) →
+    IsPlaceAwaited T (world_after T J) place
 
 abbrev pub requests_awaited : Setup → List Entry → Type 0
 requests_awaited T J = (place : PlaceName) (target : Target) → InFlight (world_after T J) (ObtainReq place target) →

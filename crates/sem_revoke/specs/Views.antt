@@ -22,8 +22,8 @@ pub record View : Type 0 where
   -- how many requests are not on the way from another kernel to the owner of their key
   pub misplaced : ℕ
 
--- What a row has taken and not yet put down.
-pub record Hand : Type 1 where
+-- What a row still owes, having taken it and not yet put it down.
+pub record Obligations : Type 1 where
   -- the children, of what job b of kernel a marks, that the row still answers for
   pub cares : ℕ → ℕ → KeyName → Type 0
   -- how many tokens of job b of kernel a the row has taken
@@ -32,22 +32,22 @@ pub record Hand : Type 1 where
   pub loose : ℕ → ℕ → Type 0
 
 -- nothing
-abbrev pub free_hand : Hand
-free_hand = record { cares = λ a b k. ⊥; owed = λ a b. 0; loose = λ a b. ⊥ }
+abbrev pub no_obligations : Obligations
+no_obligations = record { cares = λ a b k. ⊥; owed = λ a b. 0; loose = λ a b. ⊥ }
 
 abbrev pub one_at : ℕ → ℕ → ℕ → ℕ → ℕ
 one_at a b c d = if (a == c) && (b == d) then 1 else 0
 
 -- a token of job b of kernel a
-abbrev pub token : ℕ → ℕ → Hand
+abbrev pub token : ℕ → ℕ → Obligations
 token a b = record { cares = λ c d k. ⊥; owed = one_at a b; loose = λ c d. ⊥ }
 
 -- the request for a key that kernel a sent for its job b
-abbrev pub request : KeyName → ℕ → ℕ → Hand
+abbrev pub request : KeyName → ℕ → ℕ → Obligations
 request k0 a b = record { cares = λ c d k. (c ≡ a) × (d ≡ b) × (k ≡ k0); owed = one_at a b; loose = λ c d. ⊥ }
 
 -- the children of what job n of kernel i has just marked
-abbrev pub children : ℕ → ℕ → List KeyName → Hand
+abbrev pub children : ℕ → ℕ → List KeyName → Obligations
 children i n ks = record {
   cares = λ c d k. (c ≡ i) × (d ≡ n) × (has_key ks k ≡ true);
   owed = λ c d. 0;
@@ -55,7 +55,7 @@ children i n ks = record {
 }
 
 -- job n of kernel i, which has swept all that it marked
-abbrev pub closing_job : ℕ → ℕ → Hand
+abbrev pub closing_job : ℕ → ℕ → Obligations
 closing_job i n = record { cares = λ c d k. ⊥; owed = λ c d. 0; loose = λ c d. (c ≡ i) × (d ≡ n) }
 
 -- no other job waits for a job that keeps its root
@@ -88,12 +88,13 @@ module _ (owner : KeyName → ℕ) (G : KeyName → KeyName → Type 0) (M : Key
   abbrev pub Leads : View → KeyName → KeyName → Type 0
   Leads V p k = (d : Capability) × (V.hold p ≡ Some d) × (has_key d.children k ≡ true)
 
-  -- a child of what job b of kernel a marks: marked by it too, or asked for, or in the hand
-  abbrev pub Caught : Hand → View → ℕ → ℕ → KeyName → Type 0
+  -- a child of what job b of kernel a marks: marked by it too, or asked for, or
+  -- one that the row still answers for
+  abbrev pub Caught : Obligations → View → ℕ → ℕ → KeyName → Type 0
   Caught h V a b k = ((owner k ≡ a) × Marked V k b) ⊎ ((1 ≤ V.asked k a b) ⊎ h.cares a b k)
 
   -- a job asks once for a key, and has not yet asked for what the row answers for
-  abbrev pub IsSingle : Hand → View → Type 0
+  abbrev pub IsSingle : Obligations → View → Type 0
   IsSingle h V = ((k : KeyName) (a b : ℕ) → V.asked k a b ≤ 1) × ((k : KeyName) (a b : ℕ) → h.cares a b k →
       V.asked k a b ≡ 0)
 
@@ -106,7 +107,7 @@ module _ (owner : KeyName → ℕ) (G : KeyName → KeyName → Type 0) (M : Key
     pub made : (k : KeyName) → Alive V k → M k
 
   -- Revocation, also in the middle of a row.
-  pub record Revokes (h : Hand) (V : View) : Type 0 where
+  pub record Revokes (h : Obligations) (V : View) : Type 0 where
     -- every live key below a parent is linked
     pub linked : (p k : KeyName) → G p k → Alive V k → Leads V p k
     -- marks spread

@@ -3,7 +3,7 @@
 ghost use Rattle.std.specs.Prelude.{◌≡◌, [], ◌∷◌, Contains};
 ghost use Rattle.sem_msg.specs.Setup.{IsSetup};
 ghost use Rattle.sem_machine.specs.Schedules.{Always, IsSchedule, world_after};
-ghost use Rattle.sem_machine.specs.Journals.{line, answered, forest};
+ghost use Rattle.sem_machine.specs.Journals.{ancestry, answered, forest};
 ghost use Rattle.sem_machine.specs.Living.{IsOnItsWay, Binds, IsIdle};
 ghost use Rattle.sem_machine.specs.Safety.{IsInUse, IsSafe};
 ghost use Rattle.sem_revoke.specs.Resting.{IsAtRest};
@@ -27,8 +27,9 @@ pub fn safe_speaks_of_schedules()
     ensures bind { IsSchedule sample (sample_journal to_bind) }
     ensures revoke { IsSchedule sample (sample_journal to_revoke) }
     ensures clear { IsSchedule sample (sample_journal to_clear) }
-    ensures on_its_way { IsOnItsWay (world_after sample (sample_journal to_grant)) (obtained_key 0) }
-    ensures line { line (sample_journal to_grant) (obtained_key 0)
+    ensures on_its_way { IsOnItsWay (world_after sample (sample_journal to_grant))
+        (obtained_key 0) }
+    ensures line { ancestry (sample_journal to_grant) (obtained_key 0)
         ≡ obtained_key 0 ∷ derived_key ∷ memory_key ∷ [] }
     ensures bound { Binds (world_after sample (sample_journal to_bind)) 1 0 (obtained_key 0) }
     ensures revoked { Contains (answered (sample_journal to_revoke)) derived_key }

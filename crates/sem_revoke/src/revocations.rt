@@ -7,7 +7,7 @@ ghost use Rattle.sem_machine.specs.Machine.{side};
 ghost use Rattle.sem_machine.specs.Sides.{row, parked, is_alive};
 ghost use Rattle.sem_msg.specs.Lookups.{kernel_of};
 ghost use Rattle.sem_msg.specs.declared.state.Parked.{Parked};
-ghost use Rattle.sem_revoke.specs.Revocation.{held_at_home, linked, ancestors_held, orphans_dead};
+ghost use Rattle.sem_revoke.specs.Revocation.{held_at_home, live_are_linked, ancestors_held, orphans_dead};
 ghost use Rattle.sem_revoke.specs.Revocation.{unlinked_dead, asked_below_marks, capability_first};
 ghost use Rattle.sem_revoke.specs.Revocation.{marks_spread, marks_of_jobs, roots_marked};
 ghost use Rattle.sem_revoke.specs.Revocation.{keepers_alone, keepers_waited_for, tokens_counted};
@@ -27,7 +27,7 @@ ghost use Rattle.sem_machine.specs.Safety.{narrowing, nothing_lost, revoked_is_g
 /// before the request to revoke it.
 pub fn revocation_follows_links()
     ensures homes { Always held_at_home }
-    ensures linked { Always linked }
+    ensures linked { Always live_are_linked }
     ensures ancestors { Always ancestors_held }
     ensures orphans { Always orphans_dead }
     ensures unlinked { Always unlinked_dead }

@@ -33,7 +33,7 @@ use Rattle.sem_key.specs.Region.{region, children_of}
 use Rattle.sem_machine.specs.Revokes.{count_raised, count_lowered, with_up, other_marker, adopted, request_or_adopt, root_spared, swept, woken, parent_left}
 use Rattle.sem_machine.specs.Revokes.{left_parent, up_told, closed_here, closed, finish, settled, opened, begin, clear_begun, revoke_begun, ready_freed}
 use Rattle.sem_machine.specs.Revokes.{obtain_cancelled, request_begun, revoke_requested, revoke_done}
-use Rattle.sem_machine.specs.Ends.{ask_ended, call_ended, revoked_if_left, keys_of, ended}
+use Rattle.sem_machine.specs.Ends.{ask_ended, call_ended, revoked_if_left, keys_of_vpe, ended}
 use Rattle.sem_key.proofs.Puts.{get_or-put_same}
 use Rattle.sem_safety.specs.Onward.{IsOnward}
 use Rattle.sem_safety.proofs.GoingOn.{AnyVpe}
@@ -306,4 +306,4 @@ module _ (v0 : ℕ) where
       let four = call_ended-fewer T (parked answered v) v (unparked v answered) in
       let light : of_side v0 left ≤ m = omega (arith, one, two, three, four) in
       in_turn-keeps (λ t. of_side v0 t ≤ m) (revoked_if_left T i) (λ k t is. let fewer = revoked-fewer T i k (cap t k) t in
-      omega (arith, is, fewer)) (keys_of left v) left light
+      omega (arith, is, fewer)) (keys_of_vpe left v) left light

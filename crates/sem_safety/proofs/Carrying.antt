@@ -27,7 +27,7 @@ use Rattle.sem_msg.specs.EndpointRows.{unbound_from, all_unbound_from}
 use Rattle.sem_machine.specs.Sides.{linked, unlinked, mark_all, parked, Side, no_side, row, endpoint, outbox, with_slot, parked_as, unparked, with_endpoint}
 use Rattle.sem_machine.specs.Sides.{unbind_all, cap_added, caps_removed, send, sent, with_inbox}
 use Rattle.sem_key.proofs.Members.{found}
-use Rattle.sem_safety.specs.Seen.{endpoints}
+use Rattle.sem_safety.specs.Observations.{endpoints}
 use Rattle.sem_safety.proofs.Layers.{Facts, facts_of, InEndpoint, Brings, BringsFrom, Awaits, AsksFor, IsLayer}
 
 -- Lists.

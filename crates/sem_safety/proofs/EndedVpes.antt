@@ -6,7 +6,7 @@ use Rattle.sem_msg.specs.declared.state.Ask.{Ask}
 use Rattle.sem_msg.specs.Rows.{VpeRow, no_vpe}
 use Rattle.sem_msg.specs.Setup.{Setup}
 use Rattle.sem_machine.specs.Sides.{Side, row, cap, parked, buried, unparked}
-use Rattle.sem_machine.specs.Ends.{ask_ended, call_ended, revoked_if_left, keys_of, ended}
+use Rattle.sem_machine.specs.Ends.{ask_ended, call_ended, revoked_if_left, keys_of_vpe, ended}
 use Rattle.sem_key.proofs.Puts.{get_or-put_same}
 use Rattle.sem_safety.specs.Onward.{IsOnward}
 use Rattle.sem_safety.proofs.GoingOn.{AnyVpe}
@@ -26,7 +26,7 @@ ended-on T i v s =
     let left : Side = call_ended T (parked answered v) v (unparked v answered) in
     let told : P answered = in_turn-keeps P (ask_ended T i) (λ a t here. ask_ended-in F AnyVpe P L T i a t here) asks (buried v s) (onward-same (buried v s)) in
     let gone : P left = call_ended-in F AnyVpe P L T (parked answered v) v (unparked v answered) (L.keeps_unparked answered told v) in
-    in_turn-keeps P (revoked_if_left T i) (λ k t here. revoked_if_there-in F AnyVpe P L T i k (cap t k) t here tt) (keys_of left v) left gone
+    in_turn-keeps P (revoked_if_left T i) (λ k t here. revoked_if_there-in F AnyVpe P L T i k (cap t k) t here tt) (keys_of_vpe left v) left gone
 
 pub killed-dead : (T : Setup) (i v : ℕ) (s : Side) → (row (ended T i v s) v).alive ≡ false
 killed-dead T i v s = false_from_ne_true (row (ended T i v s) v).alive (λ lives.

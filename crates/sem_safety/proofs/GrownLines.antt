@@ -10,7 +10,7 @@ use Rattle.std.proofs.lemmas.List.Folds.{find-append}
 use Rattle.std.proofs.lemmas.Option.{same_Some}
 use Rattle.sem_msg.specs.declared.entry.Entry.{Entry}
 use Rattle.sem_key.specs.KeyName.{KeyName, key_eq}
-use Rattle.sem_machine.specs.Journals.{parent_in, line_in, grants}
+use Rattle.sem_machine.specs.Journals.{parent_in, ancestry_in, grants}
 use Rattle.sem_machine.specs.Safety.{IsLineage}
 use Rattle.sem_key.proofs.KeyTests.{key_eq-same, key_eq-true}
 use Rattle.sem_key.proofs.Members.{found, find_none, Contains-head, Contains-tail, Contains-nil, Contains-cons_cases, Contains-map}
@@ -92,21 +92,21 @@ module _ (roots : List KeyName) (gs : List (KeyName × KeyName)) (is : IsGrown r
   apart : (k : KeyName) → Contains (grown roots gs) k → key_eq c k ≡ false
   apart k there = false_from_ne_true (key_eq c k) (λ same. new (subst (Contains (grown roots gs)) (sym (key_eq-true c k same)) there))
 
-  pub line-stays : (n : ℕ) (k : KeyName) → Contains (grown roots gs) k → line_in n (gs ++ (p, c) ∷ []) k ≡ line_in n gs k
-  unfolding line_in
+  pub line-stays : (n : ℕ) (k : KeyName) → Contains (grown roots gs) k → ancestry_in n (gs ++ (p, c) ∷ []) k ≡ ancestry_in n gs k
+  unfolding ancestry_in
   line-stays zero k there = refl
-  line-stays (suc n) k there = ap (λ ks. k ∷ ks) (ap (λ o. option_map_or (line_in n (gs ++ (p, c) ∷ [])) o []) (parent-more gs p c k (apart k there))
+  line-stays (suc n) k there = ap (λ ks. k ∷ ks) (ap (λ o. option_map_or (ancestry_in n (gs ++ (p, c) ∷ [])) o []) (parent-more gs p c k (apart k there))
       ∙ above (parent_in gs k) refl (λ q held. line-stays n q held))
     where
-      above : (o : Option KeyName) → parent_in gs k ≡ o → ((q : KeyName) → Contains (grown roots gs) q → line_in n (gs ++ (p, c) ∷ []) q ≡ line_in n gs q) →
-          option_map_or (line_in n (gs ++ (p, c) ∷ [])) o [] ≡ option_map_or (line_in n gs) o []
+      above : (o : Option KeyName) → parent_in gs k ≡ o → ((q : KeyName) → Contains (grown roots gs) q → ancestry_in n (gs ++ (p, c) ∷ []) q ≡ ancestry_in n gs q) →
+          option_map_or (ancestry_in n (gs ++ (p, c) ∷ [])) o [] ≡ option_map_or (ancestry_in n gs) o []
       above None none rest = refl
       above (Some q) some rest = rest q (parent-grown roots gs is q k (parent-granted gs k q some))
 
   -- and that of the child is the child and the line of its parent
-  pub line-new : (n : ℕ) → Contains (grown roots gs) p → line_in (suc n) (gs ++ (p, c) ∷ []) c ≡ c ∷ line_in n gs p
-  unfolding line_in
-  line-new n parent = ap (λ ks. c ∷ ks) (ap (λ o. option_map_or (line_in n (gs ++ (p, c) ∷ [])) o []) (parent-new roots gs p c new) ∙ line-stays n p parent)
+  pub line-new : (n : ℕ) → Contains (grown roots gs) p → ancestry_in (suc n) (gs ++ (p, c) ∷ []) c ≡ c ∷ ancestry_in n gs p
+  unfolding ancestry_in
+  line-new n parent = ap (λ ks. c ∷ ks) (ap (λ o. option_map_or (ancestry_in n (gs ++ (p, c) ∷ [])) o []) (parent-new roots gs p c new) ∙ line-stays n p parent)
 
 -- The line of a key that is there ends in a root, and each key of it is a child of the next.
 
@@ -118,25 +118,25 @@ lineage-more roots gs more (k ∷ []) is = is
 lineage-more roots gs more (k ∷ p ∷ ks) is = (Contains-append_left gs more (p, k) is.0, lineage-more roots gs more (p ∷ ks) is.1)
 
 -- a line begins with its key
-line-head : (n : ℕ) (gs : List (KeyName × KeyName)) (k : KeyName) → (ks : List KeyName) × (line_in n gs k ≡ k ∷ ks)
-unfolding line_in
+line-head : (n : ℕ) (gs : List (KeyName × KeyName)) (k : KeyName) → (ks : List KeyName) × (ancestry_in n gs k ≡ k ∷ ks)
+unfolding ancestry_in
 line-head zero gs k = ([], refl)
-line-head (suc n) gs k = (option_map_or (line_in n gs) (parent_in gs k) [], refl)
+line-head (suc n) gs k = (option_map_or (ancestry_in n gs) (parent_in gs k) [], refl)
 
-lineage-below : (roots : List KeyName) (gs : List (KeyName × KeyName)) (n : ℕ) (p k : KeyName) → Contains gs (p, k) → IsLineage roots gs (line_in n gs p) →
-    IsLineage roots gs (k ∷ line_in n gs p)
+lineage-below : (roots : List KeyName) (gs : List (KeyName × KeyName)) (n : ℕ) (p k : KeyName) → Contains gs (p, k) → IsLineage roots gs (ancestry_in n gs p) →
+    IsLineage roots gs (k ∷ ancestry_in n gs p)
 unfolding IsLineage
 lineage-below roots gs n p k granted is =
     let head = line-head n gs p in
     subst (λ ks. IsLineage roots gs (k ∷ ks)) (sym head.1) (granted, subst (IsLineage roots gs) head.1 is)
 
-line-root : (n : ℕ) (k : KeyName) → line_in n [] k ≡ k ∷ []
-unfolding line_in
+line-root : (n : ℕ) (k : KeyName) → ancestry_in n [] k ≡ k ∷ []
+unfolding ancestry_in
 line-root zero k = refl
 line-root (suc n) k = refl
 
 pub line-is_lineage : (roots : List KeyName) (gs : List (KeyName × KeyName)) → IsGrown roots gs → (n : ℕ) (k : KeyName) → length gs ≤ n →
-    Contains (grown roots gs) k → IsLineage roots gs (line_in n gs k)
+    Contains (grown roots gs) k → IsLineage roots gs (ancestry_in n gs k)
 unfolding IsLineage
 line-is_lineage roots _ no_grants n k enough there = rw (line-root n k) (only (Contains-append_cases roots [] k there))
   where
@@ -148,22 +148,22 @@ line-is_lineage roots _ (granted_next gs p c before parent new) (suc n) k enough
   | inl earlier ↦
       let rest = line-is_lineage roots gs before (suc n) k (omega (arith, length-append gs ((p, c) ∷ []))) earlier in
       subst (IsLineage roots (gs ++ (p, c) ∷ [])) (sym (line-stays roots gs before p c new (suc n) k earlier))
-      (lineage-more roots gs ((p, c) ∷ []) (line_in (suc n) gs k) rest)
+      (lineage-more roots gs ((p, c) ∷ []) (ancestry_in (suc n) gs k) rest)
   | inr same ↦
       let above = line-is_lineage roots gs before n p (omega (arith, length-append gs ((p, c) ∷ []))) parent in
-      let kept : IsLineage roots (gs ++ (p, c) ∷ []) (line_in n (gs ++ (p, c) ∷ []) p) =
+      let kept : IsLineage roots (gs ++ (p, c) ∷ []) (ancestry_in n (gs ++ (p, c) ∷ []) p) =
       subst (IsLineage roots (gs ++ (p, c) ∷ [])) (sym (line-stays roots gs before p c new n p parent))
-      (lineage-more roots gs ((p, c) ∷ []) (line_in n gs p) above) in
-      let below : IsLineage roots (gs ++ (p, c) ∷ []) (c ∷ line_in n (gs ++ (p, c) ∷ []) p) =
+      (lineage-more roots gs ((p, c) ∷ []) (ancestry_in n gs p) above) in
+      let below : IsLineage roots (gs ++ (p, c) ∷ []) (c ∷ ancestry_in n (gs ++ (p, c) ∷ []) p) =
       lineage-below roots (gs ++ (p, c) ∷ []) n p c (Contains-append_right gs ((p, c) ∷ []) (p, c) (Contains-head (p, c) [])) kept in
-      subst (λ x. IsLineage roots (gs ++ (p, c) ∷ []) (line_in (suc n) (gs ++ (p, c) ∷ []) x)) same
+      subst (λ x. IsLineage roots (gs ++ (p, c) ∷ []) (ancestry_in (suc n) (gs ++ (p, c) ∷ []) x)) same
       (subst (IsLineage roots (gs ++ (p, c) ∷ [])) (ap (λ ks. c ∷ ks) (line-stays roots gs before p c new n p parent)
       ∙ sym (line-new roots gs before p c new n parent)) below)
 ]
 
 -- no more turns than grants are needed
 pub line-enough : (roots : List KeyName) (gs : List (KeyName × KeyName)) → IsGrown roots gs → (n m : ℕ) (k : KeyName) → length gs ≤ n → length gs ≤ m →
-    Contains (grown roots gs) k → line_in n gs k ≡ line_in m gs k
+    Contains (grown roots gs) k → ancestry_in n gs k ≡ ancestry_in m gs k
 line-enough roots _ no_grants n m k enough enough' there = line-root n k ∙ sym (line-root m k)
 line-enough roots _ (granted_next gs p c before parent new) zero m k enough enough' there = absurd (omega (arith, length-append gs ((p, c) ∷ [])))
 line-enough roots _ (granted_next gs p c before parent new) (suc n) zero k enough enough' there = absurd (omega (arith, length-append gs ((p, c) ∷ [])))
@@ -171,7 +171,7 @@ line-enough roots _ (granted_next gs p c before parent new) (suc n) (suc m) k en
   | inl earlier ↦ line-stays roots gs before p c new (suc n) k earlier
       ∙ (line-enough roots gs before (suc n) (suc m) k (omega (arith, length-append gs ((p, c) ∷ []))) (omega (arith, length-append gs ((p, c) ∷ []))) earlier
       ∙ sym (line-stays roots gs before p c new (suc m) k earlier))
-  | inr same ↦ subst (λ x. line_in (suc n) (gs ++ (p, c) ∷ []) x ≡ line_in (suc m) (gs ++ (p, c) ∷ []) x) same (line-new roots gs before p c new n parent
+  | inr same ↦ subst (λ x. ancestry_in (suc n) (gs ++ (p, c) ∷ []) x ≡ ancestry_in (suc m) (gs ++ (p, c) ∷ []) x) same (line-new roots gs before p c new n parent
       ∙ (ap (λ ks. c ∷ ks) (line-enough roots gs before n m p (omega (arith, length-append gs ((p, c) ∷ []))) (omega (arith, length-append gs ((p, c) ∷ [])))
       parent) ∙ sym (line-new roots gs before p c new m parent)))
 ]
@@ -180,56 +180,57 @@ line-enough roots _ (granted_next gs p c before parent new) (suc n) (suc m) k en
 
 -- an ancestor is there
 pub line-grown : (roots : List KeyName) (gs : List (KeyName × KeyName)) → IsGrown roots gs → (n : ℕ) (k a : KeyName) → Contains (grown roots gs) k →
-    Contains (line_in n gs k) a → Contains (grown roots gs) a
-unfolding line_in
+    Contains (ancestry_in n gs k) a → Contains (grown roots gs) a
+unfolding ancestry_in
 line-grown roots gs is zero k a there in_line = elim (Contains-cons_cases k [] a in_line) [
   | inl same ↦ subst (Contains (grown roots gs)) same there
   | inr rest ↦ absurd (Contains-nil a rest)
 ]
-line-grown roots gs is (suc n) k a there in_line = elim (Contains-cons_cases k (option_map_or (line_in n gs) (parent_in gs k) []) a in_line) [
+line-grown roots gs is (suc n) k a there in_line = elim (Contains-cons_cases k (option_map_or (ancestry_in n gs) (parent_in gs k) []) a in_line) [
   | inl same ↦ subst (Contains (grown roots gs)) same there
   | inr rest ↦ above (parent_in gs k) refl rest (λ p held at. line-grown roots gs is n p a held at)
 ]
   where
-    above : (o : Option KeyName) → parent_in gs k ≡ o → Contains (option_map_or (line_in n gs) o []) a →
-        ((p : KeyName) → Contains (grown roots gs) p → Contains (line_in n gs p) a → Contains (grown roots gs) a) → Contains (grown roots gs) a
+    above : (o : Option KeyName) → parent_in gs k ≡ o → Contains (option_map_or (ancestry_in n gs) o []) a →
+        ((p : KeyName) → Contains (grown roots gs) p → Contains (ancestry_in n gs p) a → Contains (grown roots gs) a) → Contains (grown roots gs) a
     above None none rest more = absurd (Contains-nil a rest)
     above (Some p) some rest more = more p (parent-grown roots gs is p k (parent-granted gs k p some)) rest
 
 -- a key is its own ancestor
-pub line-self : (n : ℕ) (gs : List (KeyName × KeyName)) (k : KeyName) → Contains (line_in n gs k) k
+pub line-self : (n : ℕ) (gs : List (KeyName × KeyName)) (k : KeyName) → Contains (ancestry_in n gs k) k
 line-self n gs k = let head = line-head n gs k in subst (λ ks. Contains ks k) (sym head.1) (Contains-head k head.0)
 
 -- the ancestors of an ancestor are ancestors
 pub line-above : (roots : List KeyName) (gs : List (KeyName × KeyName)) → IsGrown roots gs → (n : ℕ) (k a b : KeyName) → length gs ≤ n →
-    Contains (grown roots gs) k → Contains (line_in n gs k) a → Contains (line_in n gs a) b → Contains (line_in n gs k) b
+    Contains (grown roots gs) k → Contains (ancestry_in n gs k) a → Contains (ancestry_in n gs a) b → Contains (ancestry_in n gs k) b
 line-above roots _ no_grants n k a b enough there in_k in_a =
     let one : Contains (k ∷ []) a = subst (λ ks. Contains ks a) (line-root n k) in_k in
     elim (Contains-cons_cases k [] a one) [
-      | inl same ↦ subst (λ x. Contains (line_in n [] x) b) (sym same) in_a
+      | inl same ↦ subst (λ x. Contains (ancestry_in n [] x) b) (sym same) in_a
       | inr rest ↦ absurd (Contains-nil a rest)
     ]
 line-above roots _ (granted_next gs p c before parent new) zero k a b enough there in_k in_a = absurd (omega (arith, length-append gs ((p, c) ∷ [])))
 line-above roots _ (granted_next gs p c before parent new) (suc n) k a b enough there in_k in_a = elim (grown-more roots gs p c k there) [
   | inl earlier ↦
       let few : length gs ≤ suc n = omega (arith, length-append gs ((p, c) ∷ [])) in
-      let in_line : Contains (line_in (suc n) gs k) a = subst (λ ks. Contains ks a) (line-stays roots gs before p c new (suc n) k earlier) in_k in
+      let in_line : Contains (ancestry_in (suc n) gs k) a = subst (λ ks. Contains ks a) (line-stays roots gs before p c new (suc n) k earlier) in_k in
       let a_there : Contains (grown roots gs) a = line-grown roots gs before (suc n) k a earlier in_line in
-      let above : Contains (line_in (suc n) gs a) b = subst (λ ks. Contains ks b) (line-stays roots gs before p c new (suc n) a a_there) in_a in
+      let above : Contains (ancestry_in (suc n) gs a) b = subst (λ ks. Contains ks b) (line-stays roots gs before p c new (suc n) a a_there) in_a in
       subst (λ ks. Contains ks b) (sym (line-stays roots gs before p c new (suc n) k earlier))
       (line-above roots gs before (suc n) k a b few earlier in_line above)
   | inr same ↦
       let few : length gs ≤ n = omega (arith, length-append gs ((p, c) ∷ [])) in
-      let line_c : line_in (suc n) (gs ++ (p, c) ∷ []) k ≡ c ∷ line_in n gs p = subst (λ x. line_in (suc n) (gs ++ (p, c) ∷ []) x ≡ c ∷ line_in n gs p) same
+      let line_c : ancestry_in (suc n) (gs ++ (p, c) ∷ []) k ≡ c ∷ ancestry_in n gs p =
+      subst (λ x. ancestry_in (suc n) (gs ++ (p, c) ∷ []) x ≡ c ∷ ancestry_in n gs p) same
       (line-new roots gs before p c new n parent) in
-      elim (Contains-cons_cases c (line_in n gs p) a (subst (λ ks. Contains ks a) line_c in_k)) [
-        | inl itself ↦ subst (λ x. Contains (line_in (suc n) (gs ++ (p, c) ∷ []) x) b) (sym itself ∙ same) in_a
+      elim (Contains-cons_cases c (ancestry_in n gs p) a (subst (λ ks. Contains ks a) line_c in_k)) [
+        | inl itself ↦ subst (λ x. Contains (ancestry_in (suc n) (gs ++ (p, c) ∷ []) x) b) (sym itself ∙ same) in_a
         | inr higher ↦
             let a_there : Contains (grown roots gs) a = line-grown roots gs before n p a parent higher in
-            let shorter : line_in (suc n) (gs ++ (p, c) ∷ []) a ≡ line_in n gs a = line-stays roots gs before p c new (suc n) a a_there
+            let shorter : ancestry_in (suc n) (gs ++ (p, c) ∷ []) a ≡ ancestry_in n gs a = line-stays roots gs before p c new (suc n) a a_there
             ∙ line-enough roots gs before (suc n) n a (omega (arith, few)) few a_there in
-            let above : Contains (line_in n gs a) b = subst (λ ks. Contains ks b) shorter in_a in
-            subst (λ ks. Contains ks b) (sym line_c) (Contains-tail c (line_in n gs p) b (line-above roots gs before n p a b few parent higher above))
+            let above : Contains (ancestry_in n gs a) b = subst (λ ks. Contains ks b) shorter in_a in
+            subst (λ ks. Contains ks b) (sym line_c) (Contains-tail c (ancestry_in n gs p) b (line-above roots gs before n p a b few parent higher above))
       ]
 ]
 
@@ -259,18 +260,18 @@ parent-is roots _ (granted_next gs q c before parent new) p k there = elim (Cont
 
 -- a parent is an ancestor
 pub parent-ancestor : (roots : List KeyName) (gs : List (KeyName × KeyName)) → IsGrown roots gs → (p k : KeyName) → Contains gs (p, k) →
-    Contains (line_in (length gs) gs k) p
-unfolding line_in
+    Contains (ancestry_in (length gs) gs k) p
+unfolding ancestry_in
 parent-ancestor roots gs is p k there = from (length gs) (some-grant gs there)
   where
     some-grant : (hs : List (KeyName × KeyName)) → Contains hs (p, k) → 1 ≤ length hs
     some-grant [] none = absurd (Contains-nil (p, k) none)
     some-grant (h ∷ hs) some = omega arith
 
-    from : (n : ℕ) → 1 ≤ n → Contains (line_in n gs k) p
+    from : (n : ℕ) → 1 ≤ n → Contains (ancestry_in n gs k) p
     from zero few = absurd (omega (arith, few))
     from (suc n) few =
-        Contains-tail k _ p (subst (λ o. Contains (option_map_or (line_in n gs) o []) p) (sym (parent-is roots gs is p k there)) (line-self n gs p))
+        Contains-tail k _ p (subst (λ o. Contains (option_map_or (ancestry_in n gs) o []) p) (sym (parent-is roots gs is p k there)) (line-self n gs p))
 
 -- no more grants than entries
 pub few-grants : (J : List Entry) → length (grants J) ≤ length J

@@ -14,7 +14,7 @@ use Rattle.sem_machine.specs.Schedules.{IsSchedule, world_after}
 use Rattle.sem_machine.specs.Living.{HoldsCap}
 use Rattle.sem_key.proofs.KeyTests.{key_eq-same, key_eq-true, key_eq-from}
 use Rattle.sem_key.proofs.Members.{found}
-use Rattle.sem_safety.specs.Seen.{AreDistinct}
+use Rattle.sem_safety.specs.Observations.{AreDistinct}
 use Rattle.sem_safety.proofs.Lives.{all_held, at_cap, at_side}
 use Rattle.sem_safety.proofs.LiveWorlds.{lives-once}
 use Rattle.sem_safety.proofs.SoundWorlds.{held-once}

@@ -5,6 +5,7 @@ pub mod GrownLines
 pub mod Counted
 pub mod Layers
 pub mod Onwards
+pub mod OnTheWay
 pub mod Carrying
 pub mod KeptRevokes
 pub mod KeptRows

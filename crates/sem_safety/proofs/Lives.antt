@@ -1,24 +1,23 @@
 -- The places in which a key is live: held capabilities, an ObtainOk or an accepting Ack in flight, and calls that are ready to install it.
 -- Each change of a side adds no such place but those that it is handed.
-use Rattle.std.proofs.Common.{◌≡◌, ℕ, ◌+◌, ◌≤◌, Bool, true, false, not, List, [], ◌∷◌, ◌++◌, drop, Option, Some, None, is_some, slice_get, refl, arith}
+use Rattle.std.proofs.Common.{◌≡◌, ℕ, ◌+◌, ◌≤◌, Bool, true, not, List, [], ◌∷◌, Option, Some, None, is_some, slice_get, refl, arith}
 use Rattle.std.specs.Prelude.{if◌then◌else◌}
 use Rattle.std.specs.List.{filter, sum_by, list_any}
 use Rattle.std.proofs.lemmas.Bool.{cond_both}
-use Rattle.std.proofs.lemmas.List.Sums.{sum_by-cons, sum_by-append, sum_by_push}
+use Rattle.std.proofs.lemmas.List.Sums.{sum_by-cons, sum_by-append}
 use Rattle.sem_key.specs.KeyName.{KeyName, key_eq, key_lt}
 use Rattle.sem_key.specs.KeyList.{with_key, without_key}
 use Rattle.sem_key.specs.Capability.{Capability}
 use Rattle.sem_key.specs.Lists.{change, put}
 use Rattle.sem_key.specs.CapList.{is_marked_by}
 use Rattle.sem_msg.specs.declared.message.Message.{Message}
-use Rattle.sem_msg.specs.declared.message.Message.TheVariants.{ObtainReq, ObtainOk, ObtainNo, DelegateReq, DelegatePrepared, DelegateNo, Ack, Orphan, RevokeReq}
-use Rattle.sem_msg.specs.declared.message.Message.TheVariants.{RevokeDone, Unlink}
 use Rattle.sem_msg.specs.declared.state.Parked.{Parked}
-use Rattle.sem_msg.specs.declared.state.Parked.TheVariants.{ObtainWait, ObtainReady, ObtainCancelled, DelegateWait, DelegateReady, RevokeWait, Ready}
 use Rattle.sem_machine.specs.Sides.{Side, outbox, cap_added, send, sent, parked_as, unparked, with_inbox, parked}
-use Rattle.sem_safety.proofs.Layers.{Facts, facts, Brings, BringsFrom, Awaits, IsKept}
+use Rattle.sem_safety.proofs.Layers.{Facts, facts, IsKept}
 use Rattle.sem_safety.proofs.Onwards.{AnyPlace}
-use Rattle.sem_machine.proofs.Weighing.{of_option, weigh-put, weigh-drop, weigh-map, weigh-parts, weigh-filter}
+use Rattle.sem_safety.proofs.OnTheWay.{message_weight, parked_weight, inbox_weight, outbox_weight, way_weight}
+use Rattle.sem_safety.proofs.OnTheWay.{way-park, way-send, way-sent, message-none, inbox-none, parked-none}
+use Rattle.sem_machine.proofs.Weighing.{of_option, weigh-map, weigh-parts, weigh-filter}
 
 -- all held capabilities, and those with a parent
 abbrev pub all_held : Option KeyName → Bool
@@ -27,41 +26,26 @@ all_held p = true
 abbrev pub with_parent : Option KeyName → Bool
 with_parent p = is_some p
 
+-- places weigh nothing
+abbrev nowhere : ℕ → ℕ → ℕ
+nowhere v n = 0
+
 module _ (k0 : KeyName) where
   -- one, if it is that key
   abbrev pub at_key : KeyName → ℕ
   at_key k = if key_eq k k0 then 1 else 0
 
   abbrev pub at_message : Message → ℕ
-  at_message (ObtainReq place target) = 0
-  at_message (ObtainOk parent key object) = at_key key
-  at_message (ObtainNo place code) = 0
-  at_message (DelegateReq parent object vpe sel) = 0
-  at_message (DelegatePrepared parent key) = 0
-  at_message (DelegateNo parent code) = 0
-  at_message (Ack key true) = at_key key
-  at_message (Ack key false) = 0
-  at_message (Orphan parent key) = 0
-  at_message (RevokeReq key job) = 0
-  at_message (RevokeDone job) = 0
-  at_message (Unlink parent key) = 0
+  at_message = message_weight at_key nowhere
 
   abbrev pub at_parked : Option Parked → ℕ
-  at_parked None = 0
-  at_parked (Some (ObtainWait number sel)) = 0
-  at_parked (Some (ObtainReady key parent object sel)) = at_key key
-  at_parked (Some ObtainCancelled) = 0
-  at_parked (Some (DelegateWait parent)) = 0
-  at_parked (Some (DelegateReady parent key)) = 0
-  at_parked (Some (RevokeWait job)) = 0
-  at_parked (Some (Ready code)) = 0
+  at_parked = parked_weight at_key nowhere
 
   abbrev pub at_inbox : Option (ℕ × Message) → ℕ
-  at_inbox None = 0
-  at_inbox (Some m) = at_message m.1
+  at_inbox = inbox_weight at_key nowhere
 
   abbrev pub at_messages : List Message → ℕ
-  at_messages ms = sum_by at_message ms
+  at_messages = outbox_weight at_key nowhere
 
   abbrev pub at_grant : Option (KeyName × KeyName) → ℕ
   at_grant None = 0
@@ -74,41 +58,13 @@ module _ (k0 : KeyName) where
   abbrev pub OtherKeys : Facts
   OtherKeys = facts Differs AnyPlace
 
-  message-none : (m : Message) → Brings OtherKeys m → at_message m ≡ 0
-  message-none (ObtainReq place target) here = refl
-  message-none (ObtainOk parent key object) here = here
-  message-none (ObtainNo place code) here = refl
-  message-none (DelegateReq parent object vpe sel) here = refl
-  message-none (DelegatePrepared parent key) here = refl
-  message-none (DelegateNo parent code) here = refl
-  message-none (Ack key true) here = here
-  message-none (Ack key false) here = refl
-  message-none (Orphan parent key) here = refl
-  message-none (RevokeReq key job) here = refl
-  message-none (RevokeDone job) here = refl
-  message-none (Unlink parent key) here = refl
-
-  inbox-none : (o : Option (ℕ × Message)) → BringsFrom OtherKeys o → at_inbox o ≡ 0
-  inbox-none None here = refl
-  inbox-none (Some m) here = message-none m.1 here
-
-  parked-none : (p : Option Parked) → Awaits OtherKeys p → at_parked p ≡ 0
-  parked-none None here = refl
-  parked-none (Some (ObtainWait number sel)) here = refl
-  parked-none (Some (ObtainReady key parent object sel)) here = here
-  parked-none (Some ObtainCancelled) here = refl
-  parked-none (Some (DelegateWait parent)) here = refl
-  parked-none (Some (DelegateReady parent key)) here = refl
-  parked-none (Some (RevokeWait job)) here = refl
-  parked-none (Some (Ready code)) here = refl
-
 -- counts tells which held capabilities are counted, by their parents
 module _ (k0 : KeyName) (counts : Option KeyName → Bool) where
   abbrev pub at_cap : Capability → ℕ
   at_cap c = if counts c.parent then at_key k0 c.key else 0
 
   abbrev pub at_side : Side → ℕ
-  at_side s = sum_by at_cap s.caps + (sum_by (at_parked k0) s.parks + (at_inbox k0 s.inbox + sum_by (at_messages k0) s.outs))
+  at_side s = sum_by at_cap s.caps + way_weight (at_key k0) nowhere s
 
   pub cap-less : (c : Capability) → at_cap c ≤ at_key k0 c.key
   cap-less c = cond_both (counts c.parent) (at_key k0 c.key) 0 (λ n. n ≤ at_key k0 c.key) (λ _. omega arith) (λ _. omega arith)
@@ -117,7 +73,7 @@ module _ (k0 : KeyName) (counts : Option KeyName → Bool) where
 
   pub lives-park : (s : Side) (v : ℕ) (p : Option Parked) → at_side (record s { parks = put None s.parks v p }) + (at_parked k0) (parked s v)
       ≡ at_side s + (at_parked k0) p
-  lives-park s v p = let calls = weigh-put (at_parked k0) None refl s.parks v p in omega (arith, calls)
+  lives-park s v p = let calls = way-park (at_key k0) nowhere s v p in omega (arith, calls)
 
   pub lives-parked : (s : Side) (v : ℕ) (p : Parked) → at_side (parked_as v p s) ≤ at_side s + (at_parked k0) (Some p)
   lives-parked s v p = let calls = lives-park s v (Some p) in omega (arith, calls)
@@ -144,16 +100,10 @@ module _ (k0 : KeyName) (counts : Option KeyName → Bool) where
   -- Messages.
 
   pub lives-send : (s : Side) (j : ℕ) (m : Message) → at_side (send j m s) ≡ at_side s + (at_message k0) m
-  lives-send s j m =
-      let outs = weigh-put (at_messages k0) [] refl s.outs j (outbox s j ++ m ∷ []) in
-      let push = sum_by_push (at_message k0) (outbox s j) m in
-      omega (arith, outs, push)
+  lives-send s j m = let way = way-send (at_key k0) nowhere s j m in omega (arith, way)
 
   pub lives-sent : (s : Side) (j : ℕ) → at_side (sent j s) + of_option (at_message k0) (slice_get (outbox s j) 0) ≡ at_side s
-  lives-sent s j =
-      let outs = weigh-put (at_messages k0) [] refl s.outs j (drop 1 (outbox s j)) in
-      let front = weigh-drop (at_message k0) (outbox s j) in
-      omega (arith, outs, front)
+  lives-sent s j = let way = way-sent (at_key k0) nowhere s j in omega (arith, way)
 
   pub lives-inbox : (s : Side) (message : Option (ℕ × Message)) → at_side (with_inbox message s) + (at_inbox k0) s.inbox ≡ at_side s + (at_inbox k0) message
   lives-inbox s message = omega arith
@@ -164,7 +114,9 @@ module _ (k0 : KeyName) (counts : Option KeyName → Bool) where
     keeps_counted = λ s is v. is;
     keeps_drawn = λ s is v. is;
     keeps_slot = λ s is v sel state of_vpe. is;
-    keeps_parked = λ s is v p here. let new = lives-parked s v p in let none = (parked-none k0) (Some p) here in omega (arith, is, new, none);
+    keeps_parked = λ s is v p here.
+        let new = lives-parked s v p in
+        let none = parked-none (at_key k0) nowhere (Differs k0) AnyPlace (λ k other. other) (λ v n any. refl) (Some p) here in omega (arith, is, new, none);
     keeps_unparked = λ s is v. let new = lives-unparked s v in omega (arith, is, new);
     keeps_asked = λ s is v a here. is;
     keeps_taken = λ s is v. is;
@@ -187,9 +139,13 @@ module _ (k0 : KeyName) (counts : Option KeyName → Bool) where
     keeps_changed = λ s is j f same. is;
     keeps_left = λ s is j v. is;
     keeps_closed = λ s is j. is;
-    keeps_send = λ s is j msg here. let new = lives-send s j msg in let none = (message-none k0) msg here in omega (arith, is, new, none);
+    keeps_send = λ s is j msg here.
+        let new = lives-send s j msg in
+        let none = message-none (at_key k0) nowhere (Differs k0) AnyPlace (λ k other. other) (λ v n any. refl) msg here in omega (arith, is, new, none);
     keeps_sent = λ s is j. let new = lives-sent s j in omega (arith, is, new);
-    keeps_inbox = λ s is message here. let new = lives-inbox s message in let none = (inbox-none k0) message here in omega (arith, is, new, none);
+    keeps_inbox = λ s is message here.
+        let new = lives-inbox s message in
+        let none = inbox-none (at_key k0) nowhere (Differs k0) AnyPlace (λ k other. other) (λ v n any. refl) message here in omega (arith, is, new, none);
     of_link = λ s is c among k child. tt;
     spreads = λ p k here doomed. tt;
     asks = λ v n calls is. is;

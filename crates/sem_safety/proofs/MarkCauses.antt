@@ -11,7 +11,7 @@ use Rattle.sem_msg.specs.Setup.{Setup, IsSetup}
 use Rattle.sem_machine.specs.Sides.{cap}
 use Rattle.sem_machine.specs.Machine.{side, start}
 use Rattle.sem_machine.specs.Schedules.{IsSchedule, world_after}
-use Rattle.sem_machine.specs.Journals.{grants, root_keys, made, line, ends, has_ended}
+use Rattle.sem_machine.specs.Journals.{grants, root_keys, made, ancestry, ends, has_ended}
 use Rattle.sem_machine.specs.Living.{InFlight}
 use Rattle.sem_key.proofs.KeyTests.{key_eq-true}
 use Rattle.sem_key.proofs.Members.{found, Contains-map, list_any-at}
@@ -40,7 +40,7 @@ module _ (T : Setup) (valid : IsSetup T) (J : List Entry) (runs : IsSchedule T J
   causes = facts_of (Contains (made T J)) AnyPlace (λ p k. Contains gs (p, k)) IsDoomed
 
   -- the parent of a grant is an ancestor of its child
-  pub above : (p k : KeyName) → Contains gs (p, k) → Contains (line J k) p
+  pub above : (p k : KeyName) → Contains gs (p, k) → Contains (ancestry J k) p
   above p k granted =
       subst (λ ks. Contains ks p) (line-enough (root_keys T) gs grown_so (length gs) (length J) k (omega arith) (few-grants J)
       (child-grown (root_keys T) gs p k granted)) (parent-ancestor (root_keys T) gs grown_so p k granted)

@@ -21,7 +21,7 @@ use Rattle.sem_key.specs.Region.{has_key}
 use Rattle.sem_key.proofs.Puts.{get_or-put_same, get_or-put_other}
 use Rattle.sem_key.proofs.KeyTests.{key_eq-true}
 use Rattle.sem_key.proofs.Members.{found, Contains-tail, Contains-filter, Contains-map}
-use Rattle.sem_safety.specs.Seen.{endpoints}
+use Rattle.sem_safety.specs.Observations.{endpoints}
 use Rattle.sem_safety.proofs.Updates.{reads-map}
 use Rattle.sem_safety.proofs.Layers.{facts, IsOwnSlot, IsKept}
 use Rattle.sem_safety.proofs.Onwards.{Any, AnyPlace}

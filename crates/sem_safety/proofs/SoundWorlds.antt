@@ -23,7 +23,7 @@ use Rattle.sem_machine.specs.Schedules.{IsSchedule, world_after}
 use Rattle.sem_machine.specs.Safety.{sound_endpoints}
 use Rattle.sem_key.proofs.KeyTests.{key_eq-from}
 use Rattle.sem_key.proofs.Members.{Contains-nil, Contains-cons_cases}
-use Rattle.sem_safety.specs.Seen.{endpoints}
+use Rattle.sem_safety.specs.Observations.{endpoints}
 use Rattle.sem_machine.proofs.Folds.{in_turn-keeps}
 use Rattle.sem_safety.proofs.Lives.{all_held, at_cap}
 use Rattle.sem_safety.proofs.LiveWorlds.{lives-once, world-side}

@@ -1,6 +1,7 @@
 -- The tokens of a place: an ask, an ObtainReq or a DelegatePrepared in flight, or a call that is ready to grant, which name it for a key that is not made yet.
 -- Each change of a side adds no token but those that it is handed.
-use Rattle.std.proofs.Common.{◌≡◌, ℕ, ◌+◌, ◌≤◌, ◌&&◌, true, false, List, [], ◌∷◌, ◌++◌, length, drop, Option, Some, None, slice_get, refl, arith}
+use Rattle.std.proofs.Common.{◌≡◌, ℕ, ◌+◌, ◌≤◌, ◌&&◌, false, List, [], ◌∷◌, ◌++◌, length, drop, Option, Some, None}
+use Rattle.std.proofs.Common.{slice_get, refl, arith}
 use Rattle.std.specs.Prelude.{◌==◌, nat_lt, if◌then◌else◌}
 use Rattle.std.specs.List.{sum_by}
 use Rattle.std.proofs.lemmas.Bool.{cond_both}
@@ -9,18 +10,21 @@ use Rattle.sem_key.specs.KeyName.{KeyName}
 use Rattle.sem_key.specs.Lists.{put}
 use Rattle.sem_msg.specs.declared.limits.TheConstants.{ASKS}
 use Rattle.sem_msg.specs.declared.message.Message.{Message}
-use Rattle.sem_msg.specs.declared.message.Message.TheVariants.{ObtainReq, ObtainOk, ObtainNo, DelegateReq, DelegatePrepared, DelegateNo, Ack, Orphan, RevokeReq}
-use Rattle.sem_msg.specs.declared.message.Message.TheVariants.{RevokeDone, Unlink}
 use Rattle.sem_msg.specs.declared.state.Ask.{Ask}
 use Rattle.sem_msg.specs.declared.state.Ask.TheVariants.{Obtain as ObtainAsk, Delegate as DelegateAsk}
 use Rattle.sem_msg.specs.declared.state.Parked.{Parked}
-use Rattle.sem_msg.specs.declared.state.Parked.TheVariants.{ObtainWait, ObtainReady, ObtainCancelled, DelegateWait, DelegateReady, RevokeWait, Ready}
 use Rattle.sem_msg.specs.declared.state.Slot.TheVariants.{Free}
 use Rattle.sem_msg.specs.Rows.{VpeRow, no_vpe}
 use Rattle.sem_machine.specs.Sides.{Side, row, outbox, send, sent, asked, ask_taken, parked_as, unparked, with_inbox, parked}
-use Rattle.sem_safety.proofs.Layers.{Facts, facts, Brings, BringsFrom, Awaits, AsksFor, IsKept}
+use Rattle.sem_safety.proofs.Layers.{Facts, facts, AsksFor, IsKept}
 use Rattle.sem_safety.proofs.Onwards.{Any}
+use Rattle.sem_safety.proofs.OnTheWay.{message_weight, parked_weight, inbox_weight, outbox_weight, way_weight}
+use Rattle.sem_safety.proofs.OnTheWay.{way-park, way-send, way-sent, message-none, inbox-none, parked-none}
 use Rattle.sem_machine.proofs.Weighing.{of_option, weigh-put, weigh-drop}
+
+-- keys weigh nothing
+abbrev weightless : KeyName → ℕ
+weightless k = 0
 
 module _ (v0 n0 : ℕ) where
   -- one, if it is that place
@@ -31,27 +35,10 @@ module _ (v0 n0 : ℕ) where
   of_key k = at_place k.vpe k.number
 
   abbrev pub of_message : Message → ℕ
-  of_message (ObtainReq place target) = at_place place.vpe place.number
-  of_message (ObtainOk parent key object) = 0
-  of_message (ObtainNo place code) = 0
-  of_message (DelegateReq parent object vpe sel) = 0
-  of_message (DelegatePrepared parent key) = of_key key
-  of_message (DelegateNo parent code) = 0
-  of_message (Ack key accepted) = 0
-  of_message (Orphan parent key) = 0
-  of_message (RevokeReq key job) = 0
-  of_message (RevokeDone job) = 0
-  of_message (Unlink parent key) = 0
+  of_message = message_weight weightless at_place
 
   abbrev pub of_parked : Option Parked → ℕ
-  of_parked None = 0
-  of_parked (Some (ObtainWait number sel)) = 0
-  of_parked (Some (ObtainReady key parent object sel)) = 0
-  of_parked (Some ObtainCancelled) = 0
-  of_parked (Some (DelegateWait parent)) = 0
-  of_parked (Some (DelegateReady parent key)) = of_key key
-  of_parked (Some (RevokeWait job)) = 0
-  of_parked (Some (Ready code)) = 0
+  of_parked = parked_weight weightless at_place
 
   abbrev pub of_ask : Ask → ℕ
   of_ask (ObtainAsk place target) = at_place place.vpe place.number
@@ -61,14 +48,13 @@ module _ (v0 n0 : ℕ) where
   of_row r = sum_by of_ask r.asks
 
   abbrev pub of_inbox : Option (ℕ × Message) → ℕ
-  of_inbox None = 0
-  of_inbox (Some m) = of_message m.1
+  of_inbox = inbox_weight weightless at_place
 
   abbrev pub of_messages : List Message → ℕ
-  of_messages ms = sum_by of_message ms
+  of_messages = outbox_weight weightless at_place
 
   abbrev pub of_side : Side → ℕ
-  of_side s = sum_by of_row s.vpes + (sum_by of_parked s.parks + (of_inbox s.inbox + sum_by of_messages s.outs))
+  of_side s = sum_by of_row s.vpes + way_weight weightless at_place s
 
   abbrev pub of_grant : Option (KeyName × KeyName) → ℕ
   of_grant None = 0
@@ -82,34 +68,6 @@ module _ (v0 n0 : ℕ) where
   Others = facts Any Apart
 
   -- What is of no other place has no token of this one.
-  message-none : (m : Message) → Brings Others m → of_message m ≡ 0
-  message-none (ObtainReq place target) here = here
-  message-none (ObtainOk parent key object) here = refl
-  message-none (ObtainNo place code) here = refl
-  message-none (DelegateReq parent object vpe sel) here = refl
-  message-none (DelegatePrepared parent key) here = here
-  message-none (DelegateNo parent code) here = refl
-  message-none (Ack key true) here = refl
-  message-none (Ack key false) here = refl
-  message-none (Orphan parent key) here = refl
-  message-none (RevokeReq key job) here = refl
-  message-none (RevokeDone job) here = refl
-  message-none (Unlink parent key) here = refl
-
-  inbox-none : (o : Option (ℕ × Message)) → BringsFrom Others o → of_inbox o ≡ 0
-  inbox-none None here = refl
-  inbox-none (Some m) here = message-none m.1 here
-
-  parked-none : (p : Option Parked) → Awaits Others p → of_parked p ≡ 0
-  parked-none None here = refl
-  parked-none (Some (ObtainWait number sel)) here = refl
-  parked-none (Some (ObtainReady key parent object sel)) here = refl
-  parked-none (Some ObtainCancelled) here = refl
-  parked-none (Some (DelegateWait parent)) here = refl
-  parked-none (Some (DelegateReady parent key)) here = here
-  parked-none (Some (RevokeWait job)) here = refl
-  parked-none (Some (Ready code)) here = refl
-
   ask-none : (a : Ask) → AsksFor Others a → of_ask a ≡ 0
   ask-none (ObtainAsk place target) here = here
   ask-none (DelegateAsk parent object sel) here = refl
@@ -129,7 +87,7 @@ module _ (v0 n0 : ℕ) where
 
   -- a parked call, or none, comes in for another
   side-park : (s : Side) (v : ℕ) (p : Option Parked) → of_side (record s { parks = put None s.parks v p }) + of_parked (parked s v) ≡ of_side s + of_parked p
-  side-park s v p = let calls = weigh-put of_parked None refl s.parks v p in omega (arith, calls)
+  side-park s v p = let calls = way-park weightless at_place s v p in omega (arith, calls)
 
   -- a parked call comes in for another, or for none
   pub side-parked : (s : Side) (v : ℕ) (p : Parked) → of_side (parked_as v p s) ≤ of_side s + of_parked (Some p)
@@ -161,16 +119,10 @@ module _ (v0 n0 : ℕ) where
   -- Messages.
 
   pub side-send : (s : Side) (j : ℕ) (m : Message) → of_side (send j m s) ≡ of_side s + of_message m
-  side-send s j m =
-      let outs = weigh-put of_messages [] refl s.outs j (outbox s j ++ m ∷ []) in
-      let push = sum_by_push of_message (outbox s j) m in
-      omega (arith, outs, push)
+  side-send s j m = let way = way-send weightless at_place s j m in omega (arith, way)
 
   pub side-sent : (s : Side) (j : ℕ) → of_side (sent j s) + of_option of_message (slice_get (outbox s j) 0) ≡ of_side s
-  side-sent s j =
-      let outs = weigh-put of_messages [] refl s.outs j (drop 1 (outbox s j)) in
-      let front = weigh-drop of_message (outbox s j) in
-      omega (arith, outs, front)
+  side-sent s j = let way = way-sent weightless at_place s j in omega (arith, way)
 
   pub side-inbox : (s : Side) (message : Option (ℕ × Message)) → of_side (with_inbox message s) + of_inbox s.inbox ≡ of_side s + of_inbox message
   side-inbox s message = omega arith
@@ -182,9 +134,13 @@ module _ (v0 n0 : ℕ) where
     keeps_drawn = λ s is v. let new = side-lighter s v (record (row s v) { next_number = (row s v).next_number + 1 }) (omega arith) in omega (arith, is, new);
     keeps_slot = λ s is v sel state of_vpe. let new = side-lighter s v (record (row s v) { slots = put Free (row s v).slots sel state }) (omega arith) in
         omega (arith, is, new);
-    keeps_parked = λ s is v p here. let new = side-parked s v p in let none = parked-none (Some p) here in omega (arith, is, new, none);
+    keeps_parked = λ s is v p here.
+        let new = side-parked s v p in
+        let none = parked-none weightless at_place Any Apart (λ k any. refl) (λ v n other. other) (Some p) here in omega (arith, is, new, none);
     keeps_unparked = λ s is v. let new = side-unparked s v in omega (arith, is, new);
-    keeps_asked = λ s is v a here. let new = side-asked s v a in let none = ask-none a here in omega (arith, is, new, none);
+    keeps_asked = λ s is v a here.
+        let new = side-asked s v a in
+        let none = ask-none a here in omega (arith, is, new, none);
     keeps_taken = λ s is v. let new = side-taken s v in omega (arith, is, new);
     keeps_buried = λ s is v ends. let new = side-lighter s v (record (row s v) { alive = false; asks = [] }) (omega arith) in omega (arith, is, new);
     keeps_bound = λ s is v ep src c held unmarked here. is;
@@ -201,9 +157,13 @@ module _ (v0 n0 : ℕ) where
     keeps_changed = λ s is j f same. is;
     keeps_left = λ s is j v. is;
     keeps_closed = λ s is j. is;
-    keeps_send = λ s is j msg here. let new = side-send s j msg in let none = message-none msg here in omega (arith, is, new, none);
+    keeps_send = λ s is j msg here.
+        let new = side-send s j msg in
+        let none = message-none weightless at_place Any Apart (λ k any. refl) (λ v n other. other) msg here in omega (arith, is, new, none);
     keeps_sent = λ s is j. let new = side-sent s j in omega (arith, is, new);
-    keeps_inbox = λ s is message here. let new = side-inbox s message in let none = inbox-none message here in omega (arith, is, new, none);
+    keeps_inbox = λ s is message here.
+        let new = side-inbox s message in
+        let none = inbox-none weightless at_place Any Apart (λ k any. refl) (λ v n other. other) message here in omega (arith, is, new, none);
     of_link = λ s is c among k child. tt;
     spreads = λ p k here doomed. tt;
     asks = λ v n calls is. is;

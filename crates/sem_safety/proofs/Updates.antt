@@ -24,7 +24,7 @@ use Rattle.sem_key.proofs.Finds.{held-with_cap_same, held-with_cap_other}
 use Rattle.sem_key.proofs.KeyTests.{key_eq-true, key_eq-from}
 use Rattle.sem_key.proofs.Members.{find_none, Contains-from_filter}
 use Rattle.sem_key.proofs.Puts.{get_or-put_same, get_or-put_other}
-use Rattle.sem_safety.specs.Seen.{seen, at, at_key, endpoints, caps_changed, if_kept, AreDistinct}
+use Rattle.sem_safety.specs.Observations.{seen, at, at_key, endpoints, caps_changed, if_kept, AreDistinct}
 
 -- functions that are equal at each place are equal
 pub ext : {A B : Type 0} (f g : A → B) → ((x : A) → f x ≡ g x) → f ≡ g

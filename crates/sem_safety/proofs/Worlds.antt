@@ -7,7 +7,7 @@ use Rattle.sem_msg.specs.declared.message.Message.{Message}
 use Rattle.sem_machine.specs.Sides.{Side, no_side, outbox, send, sent, with_inbox}
 use Rattle.sem_machine.specs.Machine.{World, side, link, with_side, with_link}
 use Rattle.sem_machine.specs.Living.{fetched_from, way}
-use Rattle.sem_safety.specs.Seen.{Seen, seen, observed, at}
+use Rattle.sem_safety.specs.Observations.{ObservedSide, seen, observed, at}
 use Rattle.sem_safety.proofs.Updates.{ext, reads-put}
 
 -- what is read off a value that is another at one number
@@ -21,7 +21,7 @@ pub side-with_side : (i : ℕ) (s : Side) (W : World) (j : ℕ) → side (with_s
 side-with_side i s W j = ap (λ (f : ℕ → Side). f j) (reads-put no_side W.sides i s)
 
 pub observed-with_side : (i : ℕ) (s : Side) (W : World) → observed (with_side i s W) ≡ record (observed W) { kernel = at i (seen s) (λ j. seen (side W j)) }
-observed-with_side i s W = ap (λ (kernels : ℕ → Seen). record (observed W) { kernel = kernels }) (ext _ _ (λ j. ap seen (side-with_side i s W j)
+observed-with_side i s W = ap (λ (kernels : ℕ → ObservedSide). record (observed W) { kernel = kernels }) (ext _ _ (λ j. ap seen (side-with_side i s W j)
     ∙ at-ap seen i s (side W) j))
 
 pub link-with_link : (i j : ℕ) (messages : List Message) (W : World) (a b : ℕ) →

@@ -1,4 +1,4 @@
-pub mod Seen
+pub mod Observations
 pub mod History
 pub mod Growth
 pub mod Counts

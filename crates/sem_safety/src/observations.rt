@@ -18,8 +18,8 @@ ghost use Rattle.sem_machine.specs.Sides.{job_removed, send, sent, with_inbox, p
 ghost use Rattle.sem_key.specs.Region.{has_key};
 ghost use Rattle.sem_machine.specs.Machine.{World, side, link, with_side, with_link};
 ghost use Rattle.sem_machine.specs.Living.{way};
-ghost use Rattle.sem_safety.specs.Seen.{seen, observed, at, at_key, endpoints, caps_changed};
-ghost use Rattle.sem_safety.specs.Seen.{if_kept, AreDistinct};
+ghost use Rattle.sem_safety.specs.Observations.{seen, observed, at, at_key, endpoints, caps_changed};
+ghost use Rattle.sem_safety.specs.Observations.{if_kept, AreDistinct};
 
 /// How each change of a side appears in what is seen of the side; nothing else of it changes.
 pub fn changes_are_seen()
@@ -69,7 +69,8 @@ pub fn changes_are_seen()
         seen (pending_removed k s) ≡ record (seen s) { pending = at_key k None (pending s) } }
 
     // Jobs.
-    ensures job_opened { (root : KeyName) (up : Option Up) (waiters : List ℕ) (keep : Bool) (s : Side) →
+    ensures job_opened { (root : KeyName) (up : Option Up) (waiters : List ℕ) (keep : Bool)
+        (s : Side) →
         seen (job_opened root up waiters keep s)
         ≡ record (seen s) {
           job = λ j. option_or (job s j) (if s.next_job == j

@@ -8,7 +8,7 @@ ghost use Rattle.sem_machine.specs.Living.{HoldsCap};
 ghost use Rattle.sem_machine.specs.Safety.{lineage, sound_grants, sound_endpoints};
 ghost use Rattle.sem_safety.specs.Growth.{IsGrown};
 ghost use Rattle.sem_safety.specs.NewGrants.{AreNew};
-ghost use Rattle.sem_safety.specs.Seen.{AreDistinct};
+ghost use Rattle.sem_safety.specs.Observations.{AreDistinct};
 
 /// In every schedule of every setup each grant is of a key that was never made before. So the
 /// grants grow key by key: no key is the child of two grants, and no root is the child of one.

@@ -7,8 +7,8 @@ use Rattle.sem_machine.specs.Prelude.{KeyName, key_eq, Capability, Message, Park
 use Rattle.sem_machine.specs.Prelude.{cap, row, parked, pending, job, outbox, World, side, link}
 use Rattle.sem_msg.specs.Rows.{Endpoint}
 
--- what is seen of a side
-pub record Seen : Type 0 where
+-- what is observed of a side
+pub record ObservedSide : Type 0 where
   -- the held capability of a key
   pub cap : KeyName → Option Capability
   -- what is kept of a VPE
@@ -30,7 +30,7 @@ pub record Seen : Type 0 where
 abbrev pub endpoints : Side → ℕ → List (Option Endpoint)
 endpoints s v = slice_index_or s.endpoints v []
 
-abbrev pub seen : Side → Seen
+abbrev pub seen : Side → ObservedSide
 seen s = record {
   cap = cap s;
   row = row s;
@@ -43,10 +43,10 @@ seen s = record {
   outbox = outbox s;
 }
 
--- what is seen of a world
+-- what is observed of a world
 pub record Observed : Type 0 where
-  -- what is seen of the side of a kernel
-  pub kernel : ℕ → Seen
+  -- what is observed of the side of a kernel
+  pub kernel : ℕ → ObservedSide
   -- the link from a kernel to another
   pub link : ℕ → ℕ → List Message
   pub replies : ℕ
