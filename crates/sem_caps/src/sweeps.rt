@@ -23,7 +23,8 @@ pub fn take_out(
 ) -> usize
     requires can { CanTakeOut job slab.old spots.old gone.old links }
     requires tallied { IsTallied (rows_of slab.old spots.old.items) marks.now.items }
-    requires alone { IfSome alone (IsOnlyMarked job (capabilities_in (rows_of slab.old spots.old.items))) }
+    requires alone { IfSome alone
+        (IsOnlyMarked job (capabilities_in (rows_of slab.old spots.old.items))) }
     ensures { HasTakenOut job slab.old slab.new spots.old spots.new gone.old gone.new result }
 {
     if count_of(job, marks) == 0 {

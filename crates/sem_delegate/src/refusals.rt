@@ -1,6 +1,7 @@
 ghost use Rattle.std.specs.Prelude.{◌≡◌, ◌++◌};
 ghost use Rattle.sem_key.specs.CapList.{cap_of};
-ghost use Rattle.sem_vpe.specs.VpeTable.{AreOurs, IsOurs};
+ghost use Rattle.sem_vpe.specs.VpeTable.{IsOurs};
+ghost use Rattle.sem_vpe.specs.Telling.{IsKept};
 ghost use Rattle.sem_machine.specs.Sides.{no_side};
 ghost use Rattle.sem_machine.specs.Steps.{first_code};
 ghost use Rattle.sem_machine.specs.Calls.{delegate_tests, destination_tests};
@@ -22,11 +23,9 @@ pub fn delegate_refusal(
     caps: &Caps,
     vpes: &Vpes,
 ) -> Option<Code>
-    requires home { AreOurs setup.now kernel vpes.now }
-    requires ours { IsOurs vpes.now vpe }
-    ensures { result ≡ first_code
-        (delegate_tests setup.now kernel (owning caps.now.caps vpes.now.rows no_side)
-        vpe src other) }
+    requires { IsKept setup.now kernel vpe vpes.now }
+    ensures { result ≡ first_code (delegate_tests setup.now kernel
+        (owning caps.now.caps vpes.now.rows no_side) vpe src other) }
 {
     if other == vpe {
         return Some(Code::SelfExchange);

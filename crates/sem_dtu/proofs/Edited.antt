@@ -14,7 +14,7 @@ use Rattle.sem_dtu.specs.declared.op.Op.{Op}
 use Rattle.sem_dtu.specs.declared.op.Op.TheVariants.{Read, Write, Send as SendOp, Credit}
 use Rattle.sem_dtu.specs.EndpointTable.{EndpointTable, IsEndpointTable, endpoint_count, IsOurs}
 use Rattle.sem_dtu.specs.Rows.{table}
-use Rattle.sem_dtu.specs.Uses.{refusal, done, tried, use_done}
+use Rattle.sem_dtu.specs.Uses.{use_refusal, done, tried, use_done}
 use Rattle.sem_key.proofs.Puts.{put-set, put-same}
 
 -- tables with the same VPEs and the same endpoints
@@ -41,8 +41,8 @@ module _ (t : EndpointTable) (v ep : ℕ) (v_within : v < length t.rows) (ep_wit
   by_refusal false Credit = refl
 
   pub table-tried : (op : Op) → record t { rows = with_endpoint v ep (tried op (endpoint t.rows v ep)) t.rows }
-      ≡ (if is_some (refusal op (endpoint t.rows v ep)) then t else record t { rows = use_done op v ep t.rows })
-  table-tried op = by_refusal (is_some (refusal op (endpoint t.rows v ep))) op
+      ≡ (if is_some (use_refusal op (endpoint t.rows v ep)) then t else record t { rows = use_done op v ep t.rows })
+  table-tried op = by_refusal (is_some (use_refusal op (endpoint t.rows v ep))) op
 
 -- a list that was written back whole
 pub written_back : {X : Type 0} (len : ℕ) (new old : List X) → length new ≡ len → length old ≡ len → take len (new ++ drop (length new) old) ≡ new
@@ -126,7 +126,7 @@ module _ (rows : List Row) (v : ℕ) (row : Row) (ours : IsOurs (table rows) v) 
 
     pub table-used : IsEndpointTable (table rows) → (op : Op) (ep at : ℕ) (old tried_at : Option Endpoint) → ep < ENDPOINTS → at ≡ ep →
         old ≡ get_or row.endpoints.items at old → tried_at ≡ tried op old → new.endpoints.items ≡ set row.endpoints.items at tried_at →
-        table (set rows v new) ≡ (if is_some (refusal op (endpoint (table rows).rows v ep)) then table rows
+        table (set rows v new) ≡ (if is_some (use_refusal op (endpoint (table rows).rows v ep)) then table rows
         else record (table rows) { rows = use_done op v ep (table rows).rows })
     table-used is_table op ep at old tried_at low same is was edited =
         let here : endpoint (table rows).rows v ep ≡ old = endpoint-here is_table ep at old low same is in

@@ -26,8 +26,8 @@ use_tests (SendOp len) e = send_tests e
 use_tests Credit e = credit_tests e
 
 -- the refusal is the code of the first test that holds
-abbrev pub refusal : Op → Option Endpoint → Option Code
-refusal op e = option_map (λ test. test.1) (find (λ test. test.0) (use_tests op e))
+abbrev pub use_refusal : Op → Option Endpoint → Option Code
+use_refusal op e = option_map (λ test. test.1) (find (λ test. test.0) (use_tests op e))
 
 -- the endpoint after the operation
 abbrev pub done : Op → Option Endpoint → Option Endpoint
@@ -38,7 +38,7 @@ done Credit e = ring_changed credited e
 
 -- the endpoint after the operation was tried
 abbrev pub tried : Op → Option Endpoint → Option Endpoint
-tried op e = if is_some (refusal op e) then e else done op e
+tried op e = if is_some (use_refusal op e) then e else done op e
 
 -- the endpoints after the operation
 abbrev pub use_done : Op → ℕ → ℕ → List (List (Option Endpoint)) → List (List (Option Endpoint))

@@ -11,7 +11,7 @@ ghost use Rattle.sem_dtu.specs.EndpointTable.{IsOurs, IsEndpointTable};
 ghost use Rattle.sem_dtu.specs.Rows.{table};
 ghost use Rattle.sem_dtu.specs.OwnVpes.{new_table};
 ghost use Rattle.sem_dtu.specs.Stored.{IsMemoryOrGate};
-ghost use Rattle.sem_dtu.specs.Uses.{fault_code, refusal, use_done};
+ghost use Rattle.sem_dtu.specs.Uses.{fault_code, use_refusal, use_done};
 
 use crate::endpoint::Endpoint;
 use crate::op::{Op, UseFault};
@@ -127,9 +127,9 @@ impl Dtus {
         requires ours { IsOurs self.old vpe }
         requires ep { ep < ENDPOINTS }
         ensures refusal { option_map fault_code (result_err result)
-            ≡ refusal op (endpoint self.old.rows vpe ep) }
+            ≡ use_refusal op (endpoint self.old.rows vpe ep) }
         ensures table { self.new ≡ (
-            if is_some (refusal op (endpoint self.old.rows vpe ep))
+            if is_some (use_refusal op (endpoint self.old.rows vpe ep))
             then self.old
             else record self.old { rows = use_done op vpe ep self.old.rows }) }
     {

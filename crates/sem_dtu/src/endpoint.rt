@@ -7,7 +7,7 @@ ghost use Rattle.sem_key.specs.KeyList.{IsRising};
 ghost use Rattle.sem_key.specs.ObjectRanges.{IsValidObject};
 ghost use Rattle.sem_msg.specs.EndpointRows.{unbound_from};
 ghost use Rattle.sem_dtu.specs.Stored.{IsMemoryOrGate};
-ghost use Rattle.sem_dtu.specs.Uses.{fault_code, refusal, tried};
+ghost use Rattle.sem_dtu.specs.Uses.{fault_code, use_refusal, tried};
 
 use crate::binding::Binding;
 use crate::object_tests::{allows, are_credits_used, is_past_end, is_send_gate, refuse};
@@ -109,7 +109,7 @@ impl Endpoint {
 
     // Why it refuses the operation, if it does.
     fn test(&self, op: Op) -> Result<(), UseFault>
-        ensures { option_map fault_code (result_err result) ≡ refusal op self.now }
+        ensures { option_map fault_code (result_err result) ≡ use_refusal op self.now }
     {
         let Some(binding) = &self.binding else {
             return Err(UseFault::Unbound);
@@ -126,7 +126,7 @@ impl Endpoint {
 
     // Does the operation, unless it is refused; a refusal changes nothing.
     pub fn operate(&mut self, op: Op) -> Result<(), UseFault>
-        ensures refusal { option_map fault_code (result_err result) ≡ refusal op self.old }
+        ensures refusal { option_map fault_code (result_err result) ≡ use_refusal op self.old }
         ensures tried { self.new ≡ tried op self.old }
     {
         self.test(op)?;

@@ -13,7 +13,7 @@ use Rattle.sem_msg.specs.declared.state.Up.{Up}
 use Rattle.sem_msg.specs.declared.state.Up.TheVariants.{Local, Remote}
 use Rattle.sem_msg.specs.JobRows.{job_of, job_changed, job_removed, count_lowered, token_given_back, ids_of}
 use Rattle.sem_jobs.specs.JobStore.{HasRisingIds, IsPlaceOf, is_done}
-use Rattle.sem_jobs.specs.Chain.{Chain, is_last_token, next_done, chain}
+use Rattle.sem_jobs.specs.Chain.{Chain, is_last_token, next_finishing, chain}
 use Rattle.sem_jobs.proofs.JobPlaces.{found-changed, changed, removed, ids-removed}
 
 -- The place of what was found.
@@ -110,8 +110,8 @@ module _ (xs : List JobRow) (next : ℕ) (ids : HasRisingIds (ids_of xs) next) (
 
   -- a turn of the chain, with any bound
   chain-turn : (m : ℕ) → chain (suc m) (Some x) xs ≡ record {
-    left = (chain m (next_done x.up (job_removed j xs)) (token_given_back x.up (job_removed j xs))).left;
-    gone = x ∷ (chain m (next_done x.up (job_removed j xs)) (token_given_back x.up (job_removed j xs))).gone;
+    left = (chain m (next_finishing x.up (job_removed j xs)) (token_given_back x.up (job_removed j xs))).left;
+    gone = x ∷ (chain m (next_finishing x.up (job_removed j xs)) (token_given_back x.up (job_removed j xs))).gone;
   }
   unfolding chain
   chain-turn m = rw id-found refl
@@ -135,7 +135,7 @@ pub record IsTurn (whole rest : Chain) (x : JobRow) (xs zs : List JobRow) : Type
   pub one_less : length zs + 1 ≡ length xs
 
 pub turned : (xs ys zs : List JobRow) (next : ℕ) (j : ℕ) (x : JobRow) (up : Option Up) (o : Option JobRow) → HasRisingIds (ids_of xs) next →
-    Some x ≡ job_of xs j → ys ≡ job_removed j xs → up ≡ x.up → zs ≡ token_given_back up ys → o ≡ next_done up ys →
+    Some x ≡ job_of xs j → ys ≡ job_removed j xs → up ≡ x.up → zs ≡ token_given_back up ys → o ≡ next_finishing up ys →
     IsTurn (chain (length xs) (job_of xs j) xs) (chain (length zs) o zs) x xs zs
 turned xs ys zs next j x up o ids found left same is_told done =
     let found : job_of xs j ≡ Some x = sym found in
@@ -161,7 +161,7 @@ there-found xs j = of_id (job_of xs j) refl
         by_place (at, has) = subst (λ n. job_of xs n ≡ Some x) (sym has.id) is
 
 -- so is the job that is finished next
-there-next : (up : Option Up) (ys : List JobRow) → IsThere (token_given_back up ys) (next_done up ys)
+there-next : (up : Option Up) (ys : List JobRow) → IsThere (token_given_back up ys) (next_finishing up ys)
 there-next None ys = tt
 there-next (Some (Remote kernel j)) ys = tt
 there-next (Some (Local j)) ys = by_test (is_last_token (job_of ys j))
@@ -177,7 +177,7 @@ chain-more zero m next (Some x) xs ids there few few' = let less = length-left x
 chain-more (suc n) zero next (Some x) xs ids there few few' = let less = length-left xs next ids x.id x there in absurd (omega arith)
 chain-more (suc n) (suc m) next (Some x) xs ids there few few' =
     let less = length-left xs next ids x.id x there in
-    let rest = chain-more n m next (next_done x.up (job_removed x.id xs)) (token_given_back x.up (job_removed x.id xs)) (ids-left xs next ids x.id x there)
+    let rest = chain-more n m next (next_finishing x.up (job_removed x.id xs)) (token_given_back x.up (job_removed x.id xs)) (ids-left xs next ids x.id x there)
     (there-next x.up (job_removed x.id xs)) (omega arith) (omega arith) in
     rw (chain-turn xs next ids x.id x there n, chain-turn xs next ids x.id x there m, rest) refl
 
@@ -185,7 +185,7 @@ chain-more (suc n) (suc m) next (Some x) xs ids there few few' =
 module _ (xs ys : List JobRow) (next : ℕ) (ids : HasRisingIds (ids_of xs) next) (j : ℕ) (x : JobRow) (found : job_of xs j ≡ Some x) (same : ys
     ≡ count_lowered j xs) where
   pub next-told : 0 < x.count → (t : Bool) (o : Option ℕ) → t ≡ is_done (job_of ys j) → o ≡ then_some t j →
-      option_and_then (job_of ys) o ≡ next_done (Some (Local j)) xs
+      option_and_then (job_of ys) o ≡ next_finishing (Some (Local j)) xs
   next-told some t o last gives = rw (gives, ← last-token xs next ids j x found some, ← same, ← last) (chosen t)
     where
       chosen : (b : Bool) → option_and_then (job_of ys) (then_some b j) ≡ (if b then job_of ys j else None)

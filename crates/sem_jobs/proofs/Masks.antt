@@ -16,7 +16,7 @@ use mir.Syntax.{w128}
 use Rattle.sem_msg.specs.JobRows.{with_number, without_number}
 use Rattle.sem_msg.specs.Masks.{has_bit}
 use Rattle.sem_msg.proofs.Masks.{kept-same, kept-none}
-use Rattle.sem_jobs.specs.VpeSet.{IsVpeList, vpes_of}
+use Rattle.sem_jobs.specs.VpeSet.{IsVpeList, members}
 
 -- One number more, which a test keeps or not.
 none-below : (v : ℕ) (t : Bool) (ws : List ℕ) → filter (λ w. nat_lt w v) ws ≡ [] → filter (λ w. nat_lt w v) (cond t (v ∷ ws) ws) ≡ []
@@ -100,13 +100,13 @@ contains-kept p v (suc n) a pass low high = elim (cases_eq a v) [
 
 -- The VPEs of a mask.
 
-pub vpes_of-zero : vpes_of 0 ≡ []
-unfolding vpes_of
+pub vpes_of-zero : members 0 ≡ []
+unfolding members
 vpes_of-zero = kept-none (has_bit 0) 128 0 (λ v low high. ap (λ b. b == 1) (bit_at-zero v))
 
 module _ (mask : ℕ) where
-  pub IsVpeList-vpes_of : IsVpeList (vpes_of mask)
-  unfolding vpes_of
+  pub IsVpeList-vpes_of : IsVpeList (members mask)
+  unfolding members
   IsVpeList-vpes_of = record {
     rising = AllPairs-filter (λ v w. v < w) (has_bit mask) (range_with_len 0 128) (run-rises 0 128);
     below = All-filter (has_bit mask) (λ v. v < 128) (range_with_len 0 128) (run-below 0 128);
@@ -120,45 +120,45 @@ module _ (mask : ℕ) where
       run-below a n i d within = let long = length-range_with_len a n in rw (get_or-range_with_len a n i d (omega arith)) (omega arith)
 
   -- a VPE of the list has its bit
-  pub bit-of : (v : ℕ) → Contains (vpes_of mask) v → bit_at mask v ≡ 1
-  unfolding vpes_of
-  bit-of v there = let test = All-contains (λ w. has_bit mask w ≡ true) (vpes_of mask) v (filter_passes (has_bit mask) (range_with_len 0 128)) there in
+  pub bit-of : (v : ℕ) → Contains (members mask) v → bit_at mask v ≡ 1
+  unfolding members
+  bit-of v there = let test = All-contains (λ w. has_bit mask w ≡ true) (members mask) v (filter_passes (has_bit mask) (range_with_len 0 128)) there in
       grind (arith, nat_tests)
 
-  pub below-of : (v : ℕ) → Contains (vpes_of mask) v → v < 128
-  below-of v there = All-contains (λ w. w < 128) (vpes_of mask) v IsVpeList-vpes_of.below there
+  pub below-of : (v : ℕ) → Contains (members mask) v → v < 128
+  below-of v there = All-contains (λ w. w < 128) (members mask) v IsVpeList-vpes_of.below there
 
   -- a VPE that has its bit is in the list
-  pub of-bit : (v : ℕ) → v < 128 → bit_at mask v ≡ 1 → Contains (vpes_of mask) v
-  unfolding vpes_of
+  pub of-bit : (v : ℕ) → v < 128 → bit_at mask v ≡ 1 → Contains (members mask) v
+  unfolding members
   of-bit v within bit = contains-kept (has_bit mask) v 128 0 (rw bit refl) (omega arith) (omega arith)
 
   -- a bit is set
-  pub vpes_of-set : (v : ℕ) → v < 128 → vpes_of (bit_or mask (1 * 2 ^ v % 2 ^ 128)) ≡ with_number (vpes_of mask) v
-  unfolding vpes_of
+  pub vpes_of-set : (v : ℕ) → v < 128 → members (bit_or mask (1 * 2 ^ v % 2 ^ 128)) ≡ with_number (members mask) v
+  unfolding members
   vpes_of-set v within =
       let new : ℕ = bit_or mask (1 * 2 ^ v % 2 ^ 128) in
       added (has_bit mask) (has_bit new) v 128 (λ w lt differ. ap (λ b. b == 1) (bit_at_set_other w128 mask v within w differ))
       (rw (bit_at_set_same w128 mask v within) refl) 128 0 (omega arith) (omega arith) (omega arith)
 
   -- a bit is cleared
-  pub vpes_of-clear : (v : ℕ) → v < 128 → vpes_of (bit_and mask (bit_not w128 (1 * 2 ^ v % 2 ^ 128))) ≡ without_number (vpes_of mask) v
-  unfolding vpes_of
+  pub vpes_of-clear : (v : ℕ) → v < 128 → members (bit_and mask (bit_not w128 (1 * 2 ^ v % 2 ^ 128))) ≡ without_number (members mask) v
+  unfolding members
   vpes_of-clear v within =
       let new : ℕ = bit_and mask (bit_not w128 (1 * 2 ^ v % 2 ^ 128)) in
       removed (has_bit mask) (has_bit new) v 128 (λ w lt differ. ap (λ b. b == 1) (bit_at_clear_other w128 mask v within w lt differ))
       (λ lt. rw (bit_at_clear_same w128 mask v within) refl) 128 0 (omega arith)
 
   -- a VPE that has no bit is not there
-  pub vpes_of-absent : (v : ℕ) → 128 ≤ v → vpes_of mask ≡ without_number (vpes_of mask) v
-  unfolding vpes_of
+  pub vpes_of-absent : (v : ℕ) → 128 ≤ v → members mask ≡ without_number (members mask) v
+  unfolding members
   vpes_of-absent v high = removed (has_bit mask) (has_bit mask) v 128 (λ w lt differ. refl) (λ lt. absurd (omega arith)) 128 0 (omega arith)
 
   -- the place of the lowest bit is the least VPE
-  pub first-of : mask < 2 ^ 128 → All (λ v. trailing_zeros w128 mask ≤ v) (vpes_of mask)
+  pub first-of : mask < 2 ^ 128 → All (λ v. trailing_zeros w128 mask ≤ v) (members mask)
   first-of few k d lt =
-      let v : ℕ = get_or (vpes_of mask) k d in
-      let bit : bit_at mask v ≡ 1 = bit-of v (Contains-get_or (vpes_of mask) k d lt) in
+      let v : ℕ = get_or (members mask) k d in
+      let bit : bit_at mask v ≡ 1 = bit-of v (Contains-get_or (members mask) k d lt) in
       elim (cases_lt v (trailing_zeros w128 mask)) [
         | inl below ↦ elim (cases_eq mask 0) [
           | inl none ↦ let zero_bit : bit_at mask v ≡ 0 = ap (λ m. bit_at m v) none ∙ bit_at-zero v in absurd (omega (arith, bit, zero_bit))
@@ -168,7 +168,7 @@ module _ (mask : ℕ) where
         | inr above ↦ above
       ]
 
-  pub first-there : mask < 2 ^ 128 → trailing_zeros w128 mask < 128 → Contains (vpes_of mask) (trailing_zeros w128 mask)
+  pub first-there : mask < 2 ^ 128 → trailing_zeros w128 mask < 128 → Contains (members mask) (trailing_zeros w128 mask)
   first-there few within = elim (cases_eq mask 0) [
     | inl none ↦ let all : trailing_zeros w128 mask ≡ 128 = ap (trailing_zeros w128) none ∙ trailing_of_zero 128 in absurd (omega (arith, within, all))
     | inr some ↦ let low = bit_at-trailing_zeros w128 mask (omega (arith, some)) few in of-bit (trailing_zeros w128 mask) within low.1

@@ -17,10 +17,10 @@ abbrev pub is_last_token : Option JobRow → Bool
 is_last_token o = option_map_or (λ x. x.count == 1) o false
 
 -- the job that finishes next: the local one that gets its last token back by this
-abbrev pub next_done : Option Up → List JobRow → Option JobRow
-next_done None xs = None
-next_done (Some (Local j)) xs = if is_last_token (job_of xs j) then job_of (count_lowered j xs) j else None
-next_done (Some (Remote kernel j)) xs = None
+abbrev pub next_finishing : Option Up → List JobRow → Option JobRow
+next_finishing None xs = None
+next_finishing (Some (Local j)) xs = if is_last_token (job_of xs j) then job_of (count_lowered j xs) j else None
+next_finishing (Some (Remote kernel j)) xs = None
 
 -- The chain of a job is the job, and then the chain of the job that finishes next, once the first
 -- is taken out and its token is given back. n bounds the jobs in it.
@@ -29,7 +29,7 @@ chain zero o xs = record { left = xs; gone = [] }
 chain (suc n) None xs = record { left = xs; gone = [] }
 chain (suc n) (Some x) xs =
     let others : List JobRow = job_removed x.id xs in
-    let rest : Chain = chain n (next_done x.up others) (token_given_back x.up others) in
+    let rest : Chain = chain n (next_finishing x.up others) (token_given_back x.up others) in
     record { left = rest.left; gone = x ∷ rest.gone }
 
 -- the chain of the job of that id; each of its jobs is taken out of the list, so it has no more

@@ -11,5 +11,5 @@ pub record IsVpeList (vs : List ℕ) : Type 0 where
   pub below : All (λ v. v < VPES) vs
 
 -- the VPEs of a mask, which has a bit for each
-unfoldable pub vpes_of : ℕ → List ℕ
-vpes_of mask = filter (λ v. bit_at mask v == 1) (range_with_len 0 VPES)
+unfoldable pub members : ℕ → List ℕ
+members mask = filter (λ v. bit_at mask v == 1) (range_with_len 0 VPES)

@@ -2,10 +2,11 @@ ghost use Rattle.std.specs.Prelude.{◌≡◌, ℕ, ◌+◌, ◌<◌, ◌≤◌,
 ghost use Rattle.std.specs.Prelude.{false, None, Some, IsSome, IsSomeAnd, IfSome, IfOk, OnOk};
 ghost use Rattle.std.specs.Option.{option_and_then};
 ghost use Rattle.sem_msg.specs.JobRows.{job_of, job_opened, job_removed, count_raised};
-ghost use Rattle.sem_msg.specs.JobRows.{count_lowered, if_done, token_given_back, keep_set, keep_given_up};
+ghost use Rattle.sem_msg.specs.JobRows.{count_lowered, if_done, token_given_back, keep_set};
+ghost use Rattle.sem_msg.specs.JobRows.{keep_given_up};
 ghost use Rattle.sem_msg.specs.JobRows.{with_up, waiters_of, waiter_added, waiter_removed};
 ghost use Rattle.sem_jobs.specs.JobStore.{IsJobStore, IsPlaceOf, is_done, new_job};
-ghost use Rattle.sem_jobs.specs.Chain.{next_done, chain, chain_of};
+ghost use Rattle.sem_jobs.specs.Chain.{next_finishing, chain, chain_of};
 ghost use Rattle.sem_jobs.specs.Stored.{IsPlaced, rows_of};
 
 use crate::job::Job;
@@ -274,7 +275,8 @@ impl Jobs {
     // Gives a token back to the local job that waited for a finished one, if it is there and a
     // token is out for it. Returns its id if it finishes next.
     fn tell(&mut self, up: Option<Up>) -> Option<u32>
-        ensures next { option_and_then (job_of self.new.jobs) result ≡ next_done up self.old.jobs }
+        ensures next { option_and_then (job_of self.new.jobs) result
+            ≡ next_finishing up self.old.jobs }
         ensures there { IfSome result (λ job. IsSome (job_of self.new.jobs job)) }
         ensures jobs { self.new ≡ record self.old { jobs = token_given_back up self.old.jobs } }
     {

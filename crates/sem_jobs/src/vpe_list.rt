@@ -14,11 +14,11 @@ pub struct VpeList {
 
 impl Model for VpeList {
     ghost use Rattle.std.specs.Prelude.{ℕ, List};
-    ghost use Rattle.sem_jobs.specs.VpeSet.{vpes_of};
+    ghost use Rattle.sem_jobs.specs.VpeSet.{members};
 
     ghost Value = { List ℕ };
 
-    ghost view = { λ l. vpes_of l.mask };
+    ghost view = { λ l. members l.mask };
 }
 
 impl VpeList {

@@ -17,7 +17,7 @@ use Rattle.sem_msg.specs.Setup.{Setup, IsSetup}
 use Rattle.sem_machine.specs.Sides.{Side, row, cap, parked}
 use Rattle.sem_machine.specs.Revokes.{opened, begin, finished}
 use Rattle.sem_key.specs.Lists.{in_turn}
-use Rattle.sem_machine.specs.Ends.{revoked_if_left, ended_but_held, ended, keys_of}
+use Rattle.sem_machine.specs.Ends.{revoked_if_left, ended_but_held, ended, keys_of_vpe}
 use Rattle.sem_machine.specs.Sound.{IsSound, IsSoundBut, IsSoundAsk}
 use Rattle.sem_machine.proofs.Weighing.{weigh-map}
 use Rattle.sem_machine.proofs.Lengths.{without_key-shorter, filter-shorter}
@@ -180,7 +180,7 @@ pub ended-row : (T : Setup) (i v : ℕ) (s m : Side) (ks : List KeyName) → m �
     ks ≡ filter (λ (k : KeyName). k.vpe == v) (map (λ (c : Capability). c.key) m.caps) → in_turn (revoked_if_left T i) ks m ≡ ended T i v s
 unfolding ended
 ended-row T i v s m ks row items = ap (λ (xs : List KeyName). in_turn (revoked_if_left T i) xs m) items
-    ∙ ap (λ (u : Side). in_turn (revoked_if_left T i) (keys_of u v) u) row
+    ∙ ap (λ (u : Side). in_turn (revoked_if_left T i) (keys_of_vpe u v) u) row
 
 -- a VPE holds no more than its kernel
 pub listed-few : (cs : List Capability) (v : ℕ) (ks : List KeyName) → ks ≡ filter (λ (k : KeyName). k.vpe == v) (map (λ (c : Capability). c.key) cs) →

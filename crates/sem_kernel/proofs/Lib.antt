@@ -1,4 +1,6 @@
 pub mod Meets
+pub mod Appending
+pub mod BegunCalls
 pub mod Asked
 pub mod Expected
 pub mod Enabled

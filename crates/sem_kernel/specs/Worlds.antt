@@ -1,6 +1,6 @@
 -- The world of kernels and their fabric, and what an act does to the fabric.
-use Rattle.std.specs.Prelude.{◌≡◌, ◌≢◌, ℕ, ◌<◌, nat_lt, Bool, true, false, ◌&&◌, List, ◌∷◌, [], ◌++◌, length, map, drop}
-use Rattle.std.specs.Prelude.{slice_get, slice_index_or, Option, None, Some, is_some}
+use Rattle.std.specs.Prelude.{◌≡◌, ◌≢◌, ℕ, ◌<◌, nat_lt, Bool, true, false, ◌&&◌, List, ◌∷◌, [], ◌++◌, length}
+use Rattle.std.specs.Prelude.{map, drop, slice_get, slice_index_or, Option, None, Some, is_some}
 use Rattle.std.specs.Option.{option_map_or}
 use Rattle.sem_machine.specs.Prelude.{Message, Act, Calls, Fetch, Handle, Upcall, Resume, Flush, Kill, Event, Entry}
 use Rattle.sem_machine.specs.Prelude.{replies, Setup, IsSetup, FabricValue, Side, outbox, IsSound, World, start_side}

@@ -31,8 +31,8 @@ impl Stores {
             Act::Call { vpe } => self.call_next(setup, kernel, vpe),
             Act::Fetch { from } => self.fetch(setup, kernel, from, input),
             Act::Handle => self.handle_next(setup, kernel),
-            Act::Upcall { vpe } => self.be_asked(setup, kernel, vpe),
-            Act::Resume { vpe } => self.go_on(setup, kernel, vpe),
+            Act::Upcall { vpe } => self.upcall_next(setup, kernel, vpe),
+            Act::Resume { vpe } => self.resume_parked(setup, kernel, vpe),
             Act::Flush { to } => self.flush(setup, kernel, to),
             Act::Kill { vpe } => self.kill(setup, kernel, vpe),
         }
@@ -109,7 +109,7 @@ impl Stores {
 
     // Asks the VPE for its consent.
     #[tactic(auto, unfolding(sem_machine::specs::Machine::local_step))]
-    fn be_asked(&mut self, setup: &Setup, kernel: u32, vpe: u16) -> (Detail, Outcome)
+    fn upcall_next(&mut self, setup: &Setup, kernel: u32, vpe: u16) -> (Detail, Outcome)
         requires can { StoresCanAct setup.now kernel (Upcall vpe) self.old }
         ensures { DoesAct setup.now kernel self.old (Upcall vpe) None self.new result.0 result.1 }
     {
@@ -119,7 +119,7 @@ impl Stores {
 
     // Ends the waiting call of the VPE.
     #[tactic(auto, unfolding(sem_machine::specs::Machine::local_step))]
-    fn go_on(&mut self, setup: &Setup, kernel: u32, vpe: u16) -> (Detail, Outcome)
+    fn resume_parked(&mut self, setup: &Setup, kernel: u32, vpe: u16) -> (Detail, Outcome)
         requires can { StoresCanAct setup.now kernel (Resume vpe) self.old }
         ensures { DoesAct setup.now kernel self.old (Resume vpe) None self.new result.0 result.1 }
     {

@@ -26,8 +26,7 @@ impl Stores {
         ensures side { IfOk result (λ x. side_of x ≡ start_side setup.now kernel) }
         ensures stores { IfOk result (AreStoresOf setup.now kernel) }
     {
-        // Shows the proof what a setup keeps.
-        let _ = &setup.vpes;
+        setup.keeps_its_rules();
         Ok(Stores {
             caps: start_caps(alloc, setup, kernel)?,
             vpes: Vpes::new(alloc, setup, kernel)?,
@@ -47,8 +46,7 @@ impl Stores {
 fn start_caps(alloc: Global, setup: &Setup, kernel: u32) -> Result<Caps, OutOfMemory>
     ensures { IfOk result (λ caps. caps.caps ≡ (start_side setup.now kernel).caps) }
 {
-    // Shows the proof what a setup keeps.
-    let _ = &setup.vpes;
+    setup.keeps_its_rules();
     let mut caps = Caps::new(alloc)?;
     for decl in setup.vpes.as_slice() {
         if setup.pe_owner(decl.pe) == kernel {

@@ -23,13 +23,7 @@ impl Stores {
         ensures row { side_of self.new ≡ ended setup.now kernel vpe (side_of self.old) }
         ensures stores { AreStoresOf setup.now kernel self.new }
     {
-        let Stores {
-            vpes,
-            park,
-            jobs,
-            outs,
-            ..
-        } = self;
+        lend!(self => vpes, park, jobs, outs);
         end_vpe(setup, kernel, vpe, vpes, jobs, park, outs);
         self.ended.clear();
         self.caps.append_keys_of(vpe, &mut self.ended);
@@ -62,14 +56,7 @@ impl Stores {
         if !self.is_unmarked(key) {
             return;
         }
-        let Stores {
-            caps,
-            dtus,
-            jobs,
-            outs,
-            scratch,
-            ..
-        } = self;
+        lend!(self => caps, dtus, jobs, outs, scratch);
         let done = begin_revoke(
             setup, kernel, key, None, None, caps, dtus, jobs, outs, scratch,
         );

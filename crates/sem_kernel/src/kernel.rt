@@ -76,8 +76,7 @@ impl Kernel {
         }) }
     {
         let setup = shared.get();
-        // Shows the proof what a setup keeps.
-        let _ = &setup.vpes;
+        setup.keeps_its_rules();
         let stores = Stores::boot(alloc, setup, id)?;
         let own = own_vpes(alloc, setup, id)?;
         Ok(Kernel {

@@ -2,12 +2,19 @@
 //! steps.
 #![tactic(auto)]
 
+// Lends these stores of a kernel, each apart from the others.
+macro_rules! lend {
+    ($stores:ident => $($store:ident),+) => {
+        let Stores { $($store),+, .. } = $stores;
+    };
+}
+
 mod acts;
 mod booting;
 mod carrying;
 mod enabling;
 mod ends;
-mod happening;
+mod events;
 mod kernel;
 mod listing;
 mod making;
@@ -21,7 +28,7 @@ mod strays;
 mod upcalls;
 mod world;
 
-pub use happening::{StepError, advance, happen, happen_enabled, is_enabled, try_step};
+pub use events::{StepError, advance, do_enabled_event, do_event, is_enabled, try_step};
 pub use kernel::Kernel;
 pub use listing::{append_enabled, enabled_events};
 pub use own::OwnVpe;

@@ -11,7 +11,7 @@ ghost use Rattle.sem_kernel.specs.Listing.{enabled_of, enabled_among, enabled_in
 ghost use Rattle.sem_kernel.specs.Listing.{IsKernelAmong, IsVpeMaskOf, others_in, peer_act, vpe_act};
 ghost use Rattle.sem_kernel.specs.Listing.{vpe_events};
 
-use crate::happening::is_enabled;
+use crate::events::is_enabled;
 use crate::kernel::Kernel;
 use sem_fabric::Fabric;
 use sem_key::{OutOfMemory, VPES};
@@ -146,8 +146,7 @@ fn append_calls(
     ensures upcalls { IfOk result (λ masks. vpe_events kernel Upcalls masks.upcalls
         ≡ enabled_in setup.now (world_of kernels.now fabric.now) kernel Upcalls) }
 {
-    // Shows the proof what a setup keeps.
-    let _ = &setup.vpes;
+    setup.keeps_its_rules();
     let mut resumes = 0;
     let mut upcalls = 0;
     // A VPE of another kernel has no events here.
@@ -232,8 +231,7 @@ fn append_fetches(
     ensures { OnOk result (out.new.items ≡ out.old.items
         ++ enabled_peers setup.now (world_of kernels.now fabric.now) kernel Fetches) }
 {
-    // Shows the proof what a setup keeps.
-    let _ = &setup.vpes;
+    setup.keeps_its_rules();
     if kernels[kernel as usize].is_handling() {
         return Ok(());
     }
@@ -253,8 +251,7 @@ fn append_flushes(
     ensures { OnOk result (out.new.items ≡ out.old.items
         ++ enabled_peers setup.now (world_of kernels.now fabric.now) kernel Flushes) }
 {
-    // Shows the proof what a setup keeps.
-    let _ = &setup.vpes;
+    setup.keeps_its_rules();
     let filled = kernels[kernel as usize].filled();
     let mask = without(filled, fabric.full_to(kernel));
     append_peers(kernel, PeerRow::Flushes, mask, out)

@@ -39,14 +39,7 @@ impl Stores {
         ensures { HasCalled setup.now kernel self.new result
             (call_row setup.now kernel (side_of self.old) vpe call) }
     {
-        let Stores {
-            caps,
-            vpes,
-            dtus,
-            park,
-            outs,
-            ..
-        } = self;
+        lend!(self => caps, vpes, dtus, park, outs);
         match call {
             Call::Derive {
                 src,
@@ -122,14 +115,7 @@ impl Stores {
         requires revoke { is_request message.now ≡ true → HasRoomToRevoke 0 self.old }
         ensures { HasHandled setup.now kernel from self.old self.new message.now }
     {
-        let Stores {
-            caps,
-            vpes,
-            park,
-            pendings,
-            outs,
-            ..
-        } = self;
+        lend!(self => caps, vpes, park, pendings, outs);
         match message {
             Message::ObtainReq { place, target } => {
                 obtain_request(setup, kernel, *place, *target, vpes, outs);

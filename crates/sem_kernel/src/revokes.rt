@@ -27,16 +27,7 @@ impl Stores {
         ensures { HasCalled setup.now kernel self.new result
             (revoke_row setup.now kernel (side_of self.old) vpe src) }
     {
-        let Stores {
-            caps,
-            vpes,
-            dtus,
-            park,
-            jobs,
-            outs,
-            scratch,
-            ..
-        } = self;
+        lend!(self => caps, vpes, dtus, park, jobs, outs, scratch);
         let (outcome, done) = revoke_call(
             setup, kernel, vpe, src, caps, vpes, dtus, jobs, park, outs, scratch,
         );
@@ -53,16 +44,7 @@ impl Stores {
         ensures { HasCalled setup.now kernel self.new result
             (clear_row setup.now kernel (side_of self.old) vpe src) }
     {
-        let Stores {
-            caps,
-            vpes,
-            dtus,
-            park,
-            jobs,
-            outs,
-            scratch,
-            ..
-        } = self;
+        lend!(self => caps, vpes, dtus, park, jobs, outs, scratch);
         let (outcome, done) = clear_call(
             setup, kernel, vpe, src, caps, vpes, dtus, jobs, park, outs, scratch,
         );
@@ -79,16 +61,7 @@ impl Stores {
         requires room { HasRoomToRevoke 0 self.old }
         ensures { HasHandled setup.now kernel from self.old self.new (RevokeReq key job) }
     {
-        let Stores {
-            caps,
-            vpes,
-            dtus,
-            park,
-            jobs,
-            outs,
-            scratch,
-            ..
-        } = self;
+        lend!(self => caps, vpes, dtus, park, jobs, outs, scratch);
         let done = revoke_request(
             setup, kernel, from, key, job, caps, vpes, dtus, jobs, park, outs, scratch,
         );
@@ -128,15 +101,7 @@ impl Stores {
         ensures ended { self.new.ended ≡ self.old.ended }
     {
         if let Some(job) = job {
-            let Stores {
-                caps,
-                vpes,
-                park,
-                jobs,
-                outs,
-                scratch,
-                ..
-            } = self;
+            lend!(self => caps, vpes, park, jobs, outs, scratch);
             sweep(setup, kernel, job, caps, vpes, jobs, park, outs, scratch);
         }
     }

@@ -20,8 +20,7 @@ pub fn boot(
     ensures stand { IfOk result (λ r. StandsAt setup.now r.0.items r.1) }
     ensures journal { IfOk result (λ r. r.1.journal ≡ []) }
 {
-    // Shows the proof what a setup keeps.
-    let _ = &setup.vpes;
+    setup.keeps_its_rules();
     let kernels = boot_kernels(alloc, setup)?;
     let fabric = Fabric::new(alloc, setup, journal)?;
     Ok((kernels, fabric))

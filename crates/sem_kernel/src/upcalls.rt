@@ -27,14 +27,7 @@ impl Stores {
             (upcall_row setup.now kernel (side_of self.old) vpe) }
     {
         let ask = self.vpes.next_ask(vpe);
-        let Stores {
-            caps,
-            vpes,
-            park,
-            pendings,
-            outs,
-            ..
-        } = self;
+        lend!(self => caps, vpes, park, pendings, outs);
         match &ask {
             Some(Ask::Obtain { place, target }) => {
                 obtain_upcall(setup, kernel, vpe, *place, *target, caps, vpes, park, outs)

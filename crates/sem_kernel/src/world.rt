@@ -7,7 +7,7 @@ ghost use Rattle.sem_machine.specs.Machine.{side, start, enabled, is_enabled as 
 ghost use Rattle.sem_machine.specs.Machine.{after as after_spec, entry_of};
 ghost use Rattle.sem_kernel.specs.Worlds.{booted, stepped_value};
 
-use crate::happening::{StepError, advance, happen, is_enabled};
+use crate::events::{StepError, advance, do_event, is_enabled};
 use crate::kernel::Kernel;
 use crate::listing::enabled_events;
 use crate::shared::SharedSetup;
@@ -41,8 +41,7 @@ impl World {
     pub fn boot(alloc: Global, setup: &Setup) -> Result<Self, OutOfMemory>
         ensures { IfOk result (λ w. w ≡ record { setup = setup.now; world = start setup.now }) }
     {
-        // Shows the proof what a setup keeps.
-        let _ = &setup.vpes;
+        setup.keeps_its_rules();
         let kernels = boot_kernels(alloc, setup)?;
         let fabric = Fabric::new(alloc, setup, Journal::new(alloc))?;
         Ok(World {
@@ -106,7 +105,7 @@ impl World {
         )
     }
 
-    /// Lets the event happen, and returns the entry that it makes. An event that is not enabled is
+    /// Lets the event do_event, and returns the entry that it makes. An event that is not enabled is
     /// refused. After a refusal, or if memory is refused, the world is as before.
     pub fn step(&mut self, event: Event) -> Result<Entry, StepError>
         ensures not_enabled { IsErrOf result StepError.NotEnabled
@@ -120,10 +119,10 @@ impl World {
             }) }
         ensures unchanged { OnErr result (self.new ≡ self.old) }
     {
-        happen(&self.setup, &mut self.kernels, &mut self.fabric, event)
+        do_event(&self.setup, &mut self.kernels, &mut self.fabric, event)
     }
 
-    /// Lets the event happen, an enabled one. If memory is refused, the world is as before.
+    /// Lets the event do_event, an enabled one. If memory is refused, the world is as before.
     pub fn advance(&mut self, event: Event) -> Result<(), OutOfMemory>
         requires { is_enabled_spec self.old.setup self.old.world event ≡ true }
         ensures ok { OnOk result (self.new ≡ stepped_value self.old event) }

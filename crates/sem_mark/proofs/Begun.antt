@@ -1,6 +1,6 @@
 -- How a job that was opened is begun, and what the calls do with what a selector holds.
 use Rattle.std.proofs.Common.{◌≡◌, ℕ, zero, suc, ◌≤◌, Bool, false, is_none, ◌&&◌, List, [], ◌∷◌, length, Option, Some, None, refl, sym, ap, ◌∙◌, inl, inr}
-use Rattle.std.proofs.Common.{arith, length-append}
+use Rattle.std.proofs.Common.{arith, length-append, rules}
 use Rattle.std.specs.List.{filter, flat_map}
 use Rattle.std.specs.Option.{option_and_then}
 use Rattle.std.proofs.lemmas.Bool.{cases_Bool, cond-true, cond-false}
@@ -21,6 +21,8 @@ use Rattle.sem_machine.specs.Calls.{clear_row, own_tests, revoke_row, with_held}
 use Rattle.sem_machine.specs.Handles.{handle_row}
 use Rattle.sem_machine.specs.Revokes.{begin, clear_begun, finish, finished, obtain_cancelled, request_begun, revoke_begun, revoke_requested, settled}
 use Rattle.sem_machine.specs.Revokes.{waiter_added, with_up}
+use Rattle.sem_jobs.specs.JobStore.{JobStore}
+use Rattle.sem_mark.specs.Marking.{HasBegun}
 use Rattle.sem_machine.proofs.FirstCodes.{unless-first}
 use Rattle.sem_machine.proofs.Lengths.{key_set-shorter}
 
@@ -29,6 +31,11 @@ pub finish-none : (T : Setup) (i n : ℕ) (s : Side) → finish T i n None s ≡
 unfolding finish
 finish-none T i zero s = refl
 finish-none T i (suc n) s = refl
+
+-- a call that names no job begins none
+pub begins-nothing : (T : Setup) (i v : ℕ) (keep : Bool) (root : Option Capability) (jobs jobs' : JobStore) (before after : Side → Side) →
+    HasBegun T i v keep root jobs jobs' before after None
+begins-nothing T i v keep root jobs jobs' before after = search rules
 
 -- a job is settled by finishing it where no token is out for it
 pub begun : (T : Setup) (i next : ℕ) (o : Option ℕ) (x y : Side) → option_and_then (job_of x.jobs) o ≡ if_done (job_of x.jobs next) → x ≡ y →

@@ -1,7 +1,6 @@
 ghost use Rattle.std.specs.Prelude.{◌≡◌, ◌+◌, ◌<◌, ◌≤◌, true, false, [], ◌∷◌, None, Some, All};
-ghost use Rattle.std.specs.Prelude.{IfSome, IsSome, IsSomeAnd, vec_capacity};
+ghost use Rattle.std.specs.Prelude.{IfSome, IsSome, vec_capacity};
 ghost use Rattle.sem_key.specs.declared.limits.TheConstants.{VPES};
-ghost use Rattle.sem_key.specs.Capability.{Capability};
 ghost use Rattle.sem_key.specs.CapList.{link_count};
 ghost use Rattle.sem_msg.specs.declared.state.Parked.TheVariants.{RevokeWait};
 ghost use Rattle.sem_msg.specs.JobRows.{job_of};
@@ -11,7 +10,7 @@ ghost use Rattle.sem_machine.specs.Steps.{step_of};
 ghost use Rattle.sem_machine.specs.Calls.{clear_row, revoke_row};
 ghost use Rattle.sem_machine.specs.Revokes.{begin, finished, opened};
 ghost use Rattle.sem_machine.specs.Stores.{owning};
-ghost use Rattle.sem_mark.specs.Marking.{CanBegin, HasRoomLeft, HasSpace, LeadsHome};
+ghost use Rattle.sem_mark.specs.Marking.{CanBegin, HasBegun, HasRoomLeft, HasSpace, LeadsHome};
 ghost use Rattle.sem_mark.specs.Marking.{pausing, revoking};
 
 use crate::opening::{done_job, open_job};
@@ -43,21 +42,14 @@ pub fn revoke_call(
     requires can { CanBegin setup.now kernel vpe caps.old vpes.now jobs.old outs.old scratch.old }
     requires marker { IfSome (own (owning caps.old.caps vpes.now.rows no_side) vpe sel)
         (λ c. IfSome c.mark (λ j. IsSome (job_of jobs.old.jobs j))) }
-    ensures row { (s : Side) →
-        step_of result.0 (finished setup.now kernel result.1
+    ensures row { (s : Side) → step_of result.0 (finished setup.now kernel result.1
         (revoking caps.new vpes.now dtus.new jobs.new park.new outs.new s))
         ≡ revoke_row setup.now kernel
         (revoking caps.old vpes.now dtus.old jobs.old park.old outs.old s) vpe sel }
-    ensures opened { IsSome result.1 → (c : Capability) →
-        own (owning caps.old.caps vpes.now.rows no_side) vpe sel ≡ Some c → (s : Side) →
-        revoking caps.new vpes.now dtus.new jobs.new park.new outs.new s
-        ≡ opened setup.now kernel c.key None (vpe ∷ []) false
-        (parked_as vpe (RevokeWait jobs.old.next)
-        (revoking caps.old vpes.now dtus.old jobs.old park.old outs.old s)) }
-    ensures unmarked { IsSome result.1 →
-        IsSomeAnd (own (owning caps.old.caps vpes.now.rows no_side) vpe sel) (λ c. c.mark ≡ None) }
-    ensures there { IfSome result.1 (λ j. IsSome (job_of jobs.new.jobs j)) }
-    ensures done { IfSome result.1 (λ j. (j ≡ jobs.old.next)) }
+    ensures begun { HasBegun setup.now kernel vpe false
+        (own (owning caps.old.caps vpes.now.rows no_side) vpe sel) jobs.old jobs.new
+        (revoking caps.old vpes.now dtus.old jobs.old park.old outs.old)
+        (revoking caps.new vpes.now dtus.new jobs.new park.new outs.new) result.1 }
     ensures left { HasRoomLeft setup.now caps.old jobs.old outs.old scratch.old
         caps.new jobs.new outs.new scratch.new }
     ensures dtus { dtus.new.ours ≡ dtus.old.ours }
@@ -96,21 +88,14 @@ pub fn clear_call(
     scratch: &mut Scratch,
 ) -> (Outcome, Option<u32>)
     requires { CanBegin setup.now kernel vpe caps.old vpes.now jobs.old outs.old scratch.old }
-    ensures row { (s : Side) →
-        step_of result.0 (finished setup.now kernel result.1
+    ensures row { (s : Side) → step_of result.0 (finished setup.now kernel result.1
         (revoking caps.new vpes.now dtus.new jobs.new park.new outs.new s))
         ≡ clear_row setup.now kernel
         (revoking caps.old vpes.now dtus.old jobs.old park.old outs.old s) vpe sel }
-    ensures opened { IsSome result.1 → (c : Capability) →
-        own (owning caps.old.caps vpes.now.rows no_side) vpe sel ≡ Some c → (s : Side) →
-        revoking caps.new vpes.now dtus.new jobs.new park.new outs.new s
-        ≡ opened setup.now kernel c.key None (vpe ∷ []) true
-        (parked_as vpe (RevokeWait jobs.old.next)
-        (revoking caps.old vpes.now dtus.old jobs.old park.old outs.old s)) }
-    ensures unmarked { IsSome result.1 →
-        IsSomeAnd (own (owning caps.old.caps vpes.now.rows no_side) vpe sel) (λ c. c.mark ≡ None) }
-    ensures there { IfSome result.1 (λ j. IsSome (job_of jobs.new.jobs j)) }
-    ensures done { IfSome result.1 (λ j. (j ≡ jobs.old.next)) }
+    ensures begun { HasBegun setup.now kernel vpe true
+        (own (owning caps.old.caps vpes.now.rows no_side) vpe sel) jobs.old jobs.new
+        (revoking caps.old vpes.now dtus.old jobs.old park.old outs.old)
+        (revoking caps.new vpes.now dtus.new jobs.new park.new outs.new) result.1 }
     ensures left { HasRoomLeft setup.now caps.old jobs.old outs.old scratch.old
         caps.new jobs.new outs.new scratch.new }
     ensures dtus { dtus.new.ours ≡ dtus.old.ours }

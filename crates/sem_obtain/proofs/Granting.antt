@@ -28,12 +28,12 @@ use Rattle.sem_machine.specs.Asks.{is_obtain_wait, ask_refused}
 use Rattle.sem_machine.specs.Upcalls.{source, source_tests, given, given_kind, given_here, child_given, obtain_consent, ask_decided}
 use Rattle.sem_machine.specs.Stores.{installing, with_caps, with_parks, with_vpes}
 use Rattle.sem_machine.proofs.FirstCodes.{unless-first}
-use Rattle.sem_obtain.specs.Asking.{is_unawaited, answer_to, child_sent}
+use Rattle.sem_obtain.specs.Asking.{is_place_unawaited, answer_to, child_sent}
 
 -- an ask that is dropped
 pub decided-dropped : (T : Setup) (i v : ℕ) (place : PlaceName) (target : Target) (s : Side) → answer_to T i v s.parks place ≡ Dropped →
     ask_decided T i v (ObtainAsk place target) s ≡ asking place.vpe Dropped (unshown s)
-decided-dropped T i v place target s = from (is_unawaited T i s.parks place) (denies T v place.vpe) _ _ _
+decided-dropped T i v place target s = from (is_place_unawaited T i s.parks place) (denies T v place.vpe) _ _ _
   where
     from : (unawaited denied : Bool) (d n y : Step) → (if unawaited then Dropped else if denied then No else Yes) ≡ Dropped →
         (if unawaited then d else if denied then n else y) ≡ d
@@ -44,7 +44,7 @@ decided-dropped T i v place target s = from (is_unawaited T i s.parks place) (de
 -- one that is denied
 pub decided-denied : (T : Setup) (i v : ℕ) (place : PlaceName) (target : Target) (s : Side) → answer_to T i v s.parks place ≡ No →
     ask_decided T i v (ObtainAsk place target) s ≡ asking place.vpe No (unshown (ask_refused T i Refused (ObtainAsk place target) s))
-decided-denied T i v place target s = from (is_unawaited T i s.parks place) (denies T v place.vpe) _ _ _
+decided-denied T i v place target s = from (is_place_unawaited T i s.parks place) (denies T v place.vpe) _ _ _
   where
     from : (unawaited denied : Bool) (d n y : Step) → (if unawaited then Dropped else if denied then No else Yes) ≡ No →
         (if unawaited then d else if denied then n else y) ≡ n
@@ -55,7 +55,7 @@ decided-denied T i v place target s = from (is_unawaited T i s.parks place) (den
 -- one to which the VPE consents: an asker of this kernel waits for it
 pub decided-consented : (T : Setup) (i v : ℕ) (place : PlaceName) (target : Target) (s : Side) → answer_to T i v s.parks place ≡ Yes →
     ask_decided T i v (ObtainAsk place target) s ≡ asking place.vpe Yes (obtain_consent T i v place target s)
-decided-consented T i v place target s = from (is_unawaited T i s.parks place) (denies T v place.vpe) _ _ _
+decided-consented T i v place target s = from (is_place_unawaited T i s.parks place) (denies T v place.vpe) _ _ _
   where
     from : (unawaited denied : Bool) (d n y : Step) → (if unawaited then Dropped else if denied then No else Yes) ≡ Yes →
         (if unawaited then d else if denied then n else y) ≡ y
@@ -66,7 +66,7 @@ decided-consented T i v place target s = from (is_unawaited T i s.parks place) (
 pub consented-awaited : (T : Setup) (i v : ℕ) (park : List (Option Parked)) (place : PlaceName) → answer_to T i v park place ≡ Yes → kernel_of T place.vpe ≡ i →
     is_obtain_wait place.number (state_of park place.vpe) ≡ true
 consented-awaited T i v park place is here =
-    let waits : is_unawaited T i park place ≡ false = awaited (is_unawaited T i park place) is in
+    let waits : is_place_unawaited T i park place ≡ false = awaited (is_place_unawaited T i park place) is in
     not-false (is_obtain_wait place.number (state_of park place.vpe)) (rw (eq-eqb (kernel_of T place.vpe) i here) at waits)
   where
     awaited : (unawaited : Bool) → (if unawaited then Dropped else if denies T v place.vpe then No else Yes) ≡ Yes → unawaited ≡ false

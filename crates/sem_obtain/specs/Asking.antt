@@ -14,14 +14,15 @@ use Rattle.sem_machine.specs.Sides.{linked}
 use Rattle.sem_machine.specs.Upcalls.{given_here}
 
 -- whether the asker is of kernel i and does not wait for the answer
-abbrev pub is_unawaited : Setup → ℕ → List (Option Parked) → PlaceName → Bool
-is_unawaited T i park place = (kernel_of T place.vpe == i)
+abbrev pub is_place_unawaited : Setup → ℕ → List (Option Parked) → PlaceName → Bool
+is_place_unawaited T i park place = (kernel_of T place.vpe == i)
     && not (is_obtain_wait place.number (state_of park place.vpe))
 
 -- the answer of v: the ask is dropped if its asker is of kernel i and does not wait for it,
 -- otherwise denied as declared
 abbrev pub answer_to : Setup → ℕ → ℕ → List (Option Parked) → PlaceName → Consent
-answer_to T i v park place = if is_unawaited T i park place then Dropped else if denies T v place.vpe then No else Yes
+answer_to T i v park place =
+    if is_place_unawaited T i park place then Dropped else if denies T v place.vpe then No else Yes
 
 -- the parent gets a child of that key and object, which goes to the VPE of the key
 abbrev pub child_sent : Setup → ℕ → KeyName → KeyName → Object → Side → Side

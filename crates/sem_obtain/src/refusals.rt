@@ -1,7 +1,8 @@
 ghost use Rattle.std.specs.Prelude.{◌≡◌, IfSome};
 ghost use Rattle.sem_msg.specs.Codes.{code_number};
 ghost use Rattle.sem_msg.specs.Message.{IsRefusal};
-ghost use Rattle.sem_vpe.specs.VpeTable.{AreOurs, IsOurs};
+ghost use Rattle.sem_vpe.specs.VpeTable.{IsOurs};
+ghost use Rattle.sem_vpe.specs.Telling.{IsKept};
 ghost use Rattle.sem_machine.specs.Sides.{no_side};
 ghost use Rattle.sem_machine.specs.Steps.{first_code};
 ghost use Rattle.sem_machine.specs.Calls.{obtain_tests, offer_tests, open_tests};
@@ -23,8 +24,7 @@ pub fn obtain_refusal(
     other: u16,
     vpes: &Vpes,
 ) -> Option<Code>
-    requires home { AreOurs setup.now kernel vpes.now }
-    requires ours { IsOurs vpes.now vpe }
+    requires { IsKept setup.now kernel vpe vpes.now }
     ensures { result ≡ first_code
         (obtain_tests setup.now kernel (with_vpes vpes.now.rows no_side) vpe dst other) }
 {
@@ -49,8 +49,7 @@ pub fn open_refusal(
     name: u8,
     vpes: &Vpes,
 ) -> Option<Code>
-    requires home { AreOurs setup.now kernel vpes.now }
-    requires ours { IsOurs vpes.now vpe }
+    requires { IsKept setup.now kernel vpe vpes.now }
     ensures { result ≡ first_code
         (open_tests setup.now kernel (with_vpes vpes.now.rows no_side) vpe dst name) }
 {
@@ -76,11 +75,9 @@ pub fn offer_refusal(
     caps: &Caps,
     vpes: &Vpes,
 ) -> Option<Code>
-    requires home { AreOurs setup.now kernel vpes.now }
-    requires ours { IsOurs vpes.now vpe }
-    ensures { result ≡ first_code
-        (offer_tests setup.now kernel (owning caps.now.caps vpes.now.rows no_side)
-        vpe dst session) }
+    requires { IsKept setup.now kernel vpe vpes.now }
+    ensures { result ≡ first_code (offer_tests setup.now kernel
+        (owning caps.now.caps vpes.now.rows no_side) vpe dst session) }
 {
     let Some(cap) = vpes.held_key(vpe, session).and_then(|key| caps.get(key)) else {
         return Some(Code::NoCap);

@@ -18,7 +18,7 @@ ghost use Rattle.sem_machine.specs.Steps.{step_of};
 ghost use Rattle.sem_machine.specs.Upcalls.{ask_decided, given as given_spec, given_here};
 ghost use Rattle.sem_machine.specs.Upcalls.{obtain_consent, source as source_spec};
 ghost use Rattle.sem_machine.specs.Stores.{installing, owning, with_caps_vpes_parks_outs};
-ghost use Rattle.sem_obtain.specs.Asking.{answer_to, is_unawaited as is_unawaited_spec, child_sent};
+ghost use Rattle.sem_obtain.specs.Asking.{answer_to, is_place_unawaited as is_unawaited_spec, child_sent};
 ghost use Rattle.sem_obtain.specs.Asking.{IsGivable, IsUnusedNumber};
 
 use crate::ends::refuse_ask;

@@ -22,7 +22,7 @@ use Rattle.sem_histories.proofs.Closing.{itself}
 use Rattle.sem_histories.proofs.Numbers.{numbers-parts, parts-numbers}
 use Rattle.sem_histories.proofs.Searching.{searched-put, searched-next, represents-last, gone-on-more}
 use Rattle.sem_outcomes.specs.declared.steps.Step.{Step}
-use Rattle.sem_outcomes.specs.Met.{journals, journal_at, parts_of, AreEarlier, ArePartTrees, AreNumbersIn, HistoriesValue, AreMet, Continues, IsUnderWay, HasMet}
+use Rattle.sem_outcomes.specs.Met.{journals, journal_at, kernel_parts, AreEarlier, ArePartTrees, AreNumbersIn, HistoriesValue, AreMet, Continues, IsUnderWay, HasMet}
 use Rattle.sem_outcomes.specs.Endings.{ListsEndings}
 use Rattle.sem_outcomes.proofs.Growing.{journals-push, journals-length, journal-kept}
 use Rattle.sem_outcomes.proofs.PartsOf.{TreesGrow, trees-are, numbers-kept}
@@ -59,7 +59,7 @@ module _ (T : Setup) (h : HistoriesValue) (met : AreMet T h) where
           let many = many-journals in (
             journal_at T h.steps k,
             Contains-get_or (journals T h.steps) k [] (omega (arith, within, many)),
-            numbers-parts T (map parts_of h.trees) ns (get_or h.numbers k []) K (journal_at T h.steps k) (trees-are T h.trees met.trees) of_K
+            numbers-parts T (map kernel_parts h.trees) ns (get_or h.numbers k []) K (journal_at T h.steps k) (trees-are T h.trees met.trees) of_K
                 (met.numbers k within)
                 (sym (get_or_default h.numbers k [] ns within ∙ is)),
           )
@@ -74,7 +74,7 @@ module _ (T : Setup) (h : HistoriesValue) (met : AreMet T h) where
             k,
             inside,
             sym (get_or_default h.numbers k [] ns inside)
-                ∙ sym (parts-numbers T (map parts_of h.trees) ns (get_or h.numbers k []) K (journal_at T h.steps k) (trees-are T h.trees met.trees) of_K
+                ∙ sym (parts-numbers T (map kernel_parts h.trees) ns (get_or h.numbers k []) K (journal_at T h.steps k) (trees-are T h.trees met.trees) of_K
                 (met.numbers k inside)
                 (subst (λ M. HasSameParts T K M) (sym is') same)),
           )

@@ -17,7 +17,7 @@ use Rattle.sem_histories.proofs.Closing.{itself}
 use Rattle.sem_histories.proofs.Searching.{searched-start}
 use Rattle.sem_histories.proofs.TreeParts.{tree-start}
 use Rattle.sem_outcomes.specs.declared.steps.Step.{Step}
-use Rattle.sem_outcomes.specs.Met.{journals, journal_at, parts_of, AreMet, ArePartTrees, AreNumbersIn, HistoriesValue, IsUnderWay}
+use Rattle.sem_outcomes.specs.Met.{journals, journal_at, kernel_parts, AreMet, ArePartTrees, AreNumbersIn, HistoriesValue, IsUnderWay}
 use Rattle.sem_outcomes.proofs.Growing.{journals-start}
 use Rattle.sem_outcomes.proofs.PartsOf.{parts-start, told}
 
@@ -31,14 +31,14 @@ module _ (T : Setup) where
   empty : (i : ℕ) → i < T.kernels → get_or trees i [] ≡ []
   empty i here = get_or-replicate T.kernels i [] [] here
 
-  empty-part : (i : ℕ) → i < T.kernels → get_or (map parts_of trees) i [] ≡ [] ∷ []
-  empty-part i here = told T trees i many here ∙ (ap parts_of (empty i here) ∙ parts-start)
+  empty-part : (i : ℕ) → i < T.kernels → get_or (map kernel_parts trees) i [] ≡ [] ∷ []
+  empty-part i here = told T trees i many here ∙ (ap kernel_parts (empty i here) ∙ parts-start)
 
   start-trees : ArePartTrees T (replicate T.kernels [])
   start-trees = record {
     many = many;
-    each = λ i here. subst (λ (ns : List Node). IsTree ns (parts_of ns)) (sym (empty i here)) (subst (IsTree []) (sym parts-start) tree-start);
-    runs = λ i here. subst (λ (ns : List Node). All (IsLocalRun T i) (parts_of ns)) (sym (empty i here))
+    each = λ i here. subst (λ (ns : List Node). IsTree ns (kernel_parts ns)) (sym (empty i here)) (subst (IsTree []) (sym parts-start) tree-start);
+    runs = λ i here. subst (λ (ns : List Node). All (IsLocalRun T i) (kernel_parts ns)) (sym (empty i here))
         (subst (All (IsLocalRun T i)) (sym parts-start) (All-cons (IsLocalRun T i) [] [] (runs-start T i).run (All-nil (IsLocalRun T i))));
   }
 
@@ -49,9 +49,9 @@ module _ (T : Setup) where
   start-numbers = record {
     count = length-replicate T.kernels 0;
     within = λ i here.
-        subst (λ n. n < length (get_or (map parts_of trees) i [])) (sym (zero-at i here))
+        subst (λ n. n < length (get_or (map kernel_parts trees) i [])) (sym (zero-at i here))
         (subst (λ (L : List (List Entry)). 0 < length L) (sym (empty-part i here)) (omega arith));
-    parts = λ i here. ap (λ n. get_or (get_or (map parts_of trees) i []) n []) (zero-at i here) ∙ ap (λ L. get_or L 0 []) (empty-part i here);
+    parts = λ i here. ap (λ n. get_or (get_or (map kernel_parts trees) i []) n []) (zero-at i here) ∙ ap (λ L. get_or L 0 []) (empty-part i here);
   }
 
   pub met-start : AreMet T (record { steps = []; numbers = replicate T.kernels 0 ∷ []; trees = replicate T.kernels [] })

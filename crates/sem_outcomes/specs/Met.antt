@@ -19,8 +19,8 @@ abbrev pub journal_at : Setup → List Step → ℕ → List Entry
 journal_at T steps n = slice_index_or (journals T steps) n []
 
 -- the parts that the nodes of a tree tell, by number
-unfoldable pub parts_of : List Node → List (List Entry)
-parts_of nodes = fold (λ parts n. parts ++ part_below parts n.0 n.1 ∷ []) ([] ∷ []) nodes
+unfoldable pub kernel_parts : List Node → List (List Entry)
+kernel_parts nodes = fold (λ parts n. parts ++ part_below parts n.0 n.1 ∷ []) ([] ∷ []) nodes
 
 -- each step goes on from an earlier history
 abbrev pub AreEarlier : List Step → Type 0
@@ -34,12 +34,12 @@ pub record AreSteps (T : Setup) (steps : List Step) : Type 0 where
 -- each tree tells every part once, and only parts that the kernel can have
 pub record ArePartTrees (T : Setup) (trees : List (List Node)) : Type 0 where
   pub many : length trees ≡ T.kernels
-  pub each : (i : ℕ) → i < T.kernels → IsTree (slice_index_or trees i []) (parts_of (slice_index_or trees i []))
-  pub runs : (i : ℕ) → i < T.kernels → All (IsLocalRun T i) (parts_of (slice_index_or trees i []))
+  pub each : (i : ℕ) → i < T.kernels → IsTree (slice_index_or trees i []) (kernel_parts (slice_index_or trees i []))
+  pub runs : (i : ℕ) → i < T.kernels → All (IsLocalRun T i) (kernel_parts (slice_index_or trees i []))
 
 -- the numbers, one for each kernel, are those of its part of the journal
 abbrev pub AreNumbersIn : Setup → List (List Node) → List ℕ → List Entry → Type 0
-AreNumbersIn T trees numbers J = AreNumbersOf T (map parts_of trees) numbers J
+AreNumbersIn T trees numbers J = AreNumbersOf T (map kernel_parts trees) numbers J
 
 -- The histories: each but the first by its step, and each by the numbers of its parts.
 pub record HistoriesValue : Type 0 where

@@ -9,7 +9,7 @@ ghost use Rattle.sem_outcomes.specs.Ways.{ComesFrom};
 
 use crate::steps::Step;
 use sem_fabric::Fabric;
-use sem_kernel::{Kernel, advance, boot, happen_enabled};
+use sem_kernel::{Kernel, advance, boot, do_enabled_event};
 use sem_key::OutOfMemory;
 use sem_msg::{Entry, Event, Journal, Setup};
 use std::alloc::Global;
@@ -69,7 +69,7 @@ pub fn entry_after(
         ≡ entry_of setup.now (world_after setup.now (journal_at setup.now steps.now at)) event) }
 {
     let (mut kernels, mut fabric) = play(alloc, setup, steps, at)?;
-    happen_enabled(setup, &mut kernels, &mut fabric, event)
+    do_enabled_event(setup, &mut kernels, &mut fabric, event)
 }
 
 // The numbers of the histories on the way to that one, that one first.

@@ -42,8 +42,7 @@ pub fn all_outcomes_told<P: Progress>(
     ensures many { IsErrOf result SearchError.TooMany
         → HasMoreThan (CountsAs ByParts setup.now) setup.now limit }
 {
-    // Shows the proof what a setup keeps.
-    let _ = &setup.vpes;
+    setup.keeps_its_rules();
     if limit == 0 {
         return Err(SearchError::TooMany);
     }
@@ -81,8 +80,7 @@ fn go_on(
     ensures many { IsErrOf result SearchError.TooMany
         → HasMoreThan (CountsAs ByParts setup.now) setup.now limit }
 {
-    // Shows the proof what a setup keeps.
-    let _ = &setup.vpes;
+    setup.keeps_its_rules();
     let (kernels, fabric) = play(alloc, setup, histories.steps.as_slice(), at)?;
     let mut events = Vec::new(alloc);
     enabled_events(alloc, setup, kernels.as_slice(), &fabric, &mut events)?;

@@ -9,7 +9,7 @@ use Rattle.sem_msg.specs.declared.entry.Outcome.{Outcome}
 use Rattle.sem_msg.specs.Codes.{code_number}
 use Rattle.sem_dtu.specs.declared.op.Op.{Op}
 use Rattle.sem_dtu.specs.EndpointTable.{EndpointTable}
-use Rattle.sem_dtu.specs.Uses.{use_tests, refusal, use_done}
+use Rattle.sem_dtu.specs.Uses.{use_tests, use_refusal, use_done}
 use Rattle.sem_machine.specs.Sides.{Side, own, endpoint, with_endpoint}
 use Rattle.sem_machine.specs.Steps.{Step, answer, first_code}
 use Rattle.sem_machine.specs.Calls.{bind_tests, bind_row}
@@ -27,15 +27,15 @@ first-found ((false, code) ∷ tests) = first-found tests
 abbrev answering : Side → Code → Step
 answering s code = record { side = s; outcome = record { asked = None; grant = None; cut = None; reply = Some (code_number code) } }
 
-use-is : (op : Op) (v ep : ℕ) (s : Side) (o : Option Code) → o ≡ refusal op (endpoint s v ep) →
+use-is : (op : Op) (v ep : ℕ) (s : Side) (o : Option Code) → o ≡ use_refusal op (endpoint s v ep) →
     use_row op v ep s ≡ option_map_or (answering s) o (answering (with_endpoints (use_done op v ep s.endpoints) s) OkCode)
 use-is op v ep s o is =
     unless-first (use_tests op (endpoint s v ep)) (answering s) (answering (with_endpoints (use_done op v ep s.endpoints) s) OkCode)
     ∙ ap (λ (code : Option Code). option_map_or (answering s) code (answering (with_endpoints (use_done op v ep s.endpoints) s) OkCode))
     (first-found (use_tests op (endpoint s v ep)) ∙ sym is)
 
-pub use-passed : (op : Op) (v ep : ℕ) (old new : EndpointTable) (s : Side) (o : Outcome) → None ≡ refusal op (endpoint (with_endpoints old.rows s) v ep)
-    → new ≡ (if is_some (refusal op (endpoint (with_endpoints old.rows s) v ep)) then old else record old { rows = use_done op v ep old.rows })
+pub use-passed : (op : Op) (v ep : ℕ) (old new : EndpointTable) (s : Side) (o : Outcome) → None ≡ use_refusal op (endpoint (with_endpoints old.rows s) v ep)
+    → new ≡ (if is_some (use_refusal op (endpoint (with_endpoints old.rows s) v ep)) then old else record old { rows = use_done op v ep old.rows })
     → o ≡ record { asked = None; grant = None; cut = None; reply = Some (code_number OkCode) } →
     record { side = with_endpoints new.rows s; outcome = o } ≡ use_row op v ep (with_endpoints old.rows s)
 use-passed op v ep old new s o is table shown =
@@ -44,8 +44,8 @@ use-passed op v ep old new s o is table shown =
     (λ i. record { side = with_endpoints (now i).rows s; outcome = shown i }) ∙ sym (use-is op v ep (with_endpoints old.rows s) None is)
 
 pub use-refused : (op : Op) (v ep : ℕ) (old new : EndpointTable) (s : Side) (o : Outcome) (code : Code) →
-    Some code ≡ refusal op (endpoint (with_endpoints old.rows s) v ep)
-    → new ≡ (if is_some (refusal op (endpoint (with_endpoints old.rows s) v ep)) then old else record old { rows = use_done op v ep old.rows })
+    Some code ≡ use_refusal op (endpoint (with_endpoints old.rows s) v ep)
+    → new ≡ (if is_some (use_refusal op (endpoint (with_endpoints old.rows s) v ep)) then old else record old { rows = use_done op v ep old.rows })
     → o ≡ record { asked = None; grant = None; cut = None; reply = Some (code_number code) } →
     record { side = with_endpoints new.rows s; outcome = o } ≡ use_row op v ep (with_endpoints old.rows s)
 use-refused op v ep old new s o code is table shown =

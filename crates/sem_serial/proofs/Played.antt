@@ -13,7 +13,7 @@ use Rattle.sem_kernel.specs.Worlds.{WorldValue}
 use Rattle.sem_kernel.specs.declared.world.World.{World}
 use Rattle.sem_serial.specs.declared.faults.PlayError.{PlayError}
 use Rattle.sem_serial.specs.declared.faults.PlayError.TheVariants.{NotEnabled, Memory}
-use Rattle.sem_serial.specs.Playing.{events_of, StopsAt}
+use Rattle.sem_serial.specs.Playing.{events_of, IsNotEnabledAt}
 use Rattle.sem_machine.proofs.Pushing.{schedule-push, schedule-empty, world_after-push, entry_of-event}
 
 -- the first n events happened, and made the journal
@@ -74,9 +74,9 @@ module _ (T : Setup) (events : List Event) (w : WorldValue) (J : List Entry) (n 
 
   -- what is not enabled stops the play
   pub stops : (e : Event) → n < length events → e ≡ get_or events n e → is_enabled w.setup w.world e ≡ false → (K : List Entry) → K ≡ J → (m : ℕ) →
-      IsErrOf {T = World} (Err (NotEnabled n)) (NotEnabled m) → StopsAt T events K m
+      IsErrOf {T = World} (Err (NotEnabled n)) (NotEnabled m) → IsNotEnabledAt T events K m
   stops e within at disabled K journal m same =
-      subst (StopsAt T events K) (ap stopped_of same) (record {
+      subst (IsNotEnabledAt T events K) (ap stopped_of same) (record {
         next = sym so_far.many ∙ ap length (sym journal);
         event = e;
         there = slice_get-get_or events n e within ∙ ap Some (sym at);

@@ -9,7 +9,7 @@ use Rattle.sem_msg.specs.declared.entry.Entry.{Entry}
 use Rattle.sem_msg.specs.Setup.{Setup}
 use Rattle.sem_msg.specs.Fabric.{FabricValue}
 use Rattle.sem_machine.specs.Machine.{World, after, entry_of, enabled, is_enabled}
-use Rattle.sem_machine.specs.Schedules.{run, world_after}
+use Rattle.sem_machine.specs.Schedules.{world_after}
 use Rattle.sem_machine.specs.Living.{IsQuiet}
 use Rattle.sem_machine.specs.Seeded.{drain, entry_limit, picked}
 use Rattle.sem_machine.proofs.EnabledList.{enabled-exact}

@@ -1,5 +1,5 @@
 -- The enabled events of a kernel that an event does not touch.
-use Rattle.std.proofs.Common.{◌≡◌, ℕ, ◌+◌, ◌-◌, ◌<◌, ◌&&◌, Bool, cond, true, false, not, List, [], ◌∷◌, ◌++◌, length, map, drop, get_or, Option, Some, None}
+use Rattle.std.proofs.Common.{◌≡◌, ℕ, ◌+◌, ◌-◌, ◌&&◌, Bool, cond, true, false, List, [], ◌∷◌, ◌++◌, length, map, drop, get_or, Option, Some, None}
 use Rattle.std.proofs.Common.{is_none, is_some, slice_get, refl, sym, ◌∙◌, ap, arith, inl, inr, ◌⊎◌, length-append}
 use Rattle.std.specs.Prelude.{◌||◌, ◌==◌, nat_lt, nat_le}
 use Rattle.std.specs.List.{filter, find, list_any, range_with_len}
@@ -11,18 +11,16 @@ use Rattle.sem_key.proofs.Puts.{get_or-put_other}
 use Rattle.sem_msg.specs.declared.event.Act.{Act}
 use Rattle.sem_msg.specs.declared.event.Act.TheVariants.{Call as Calls, Fetch, Handle, Upcall, Resume, Flush, Kill}
 use Rattle.sem_msg.specs.declared.event.Event.{Event}
-use Rattle.sem_msg.specs.declared.entry.Entry.{Entry}
 use Rattle.sem_msg.specs.declared.entry.Reply.{Reply}
 use Rattle.sem_msg.specs.declared.message.Message.{Message}
 use Rattle.sem_msg.specs.declared.setup.VpeDecl.{VpeDecl}
 use Rattle.sem_msg.specs.Setup.{Setup}
-use Rattle.sem_msg.specs.Fabric.{is_due, link_in, link_put}
-use Rattle.sem_msg.specs.Journal.{kill_number}
+use Rattle.sem_msg.specs.Fabric.{is_due}
 use Rattle.sem_msg.proofs.Moves.{link_in-same, link_in-other}
 use Rattle.sem_machine.specs.Sides.{Side, no_side, outbox}
 use Rattle.sem_machine.specs.Steps.{Step}
-use Rattle.sem_machine.specs.Machine.{World, side, link, with_side, with_link, event, local_step, local_entry, input_of, link_moved, reply_counted}
-use Rattle.sem_machine.specs.Machine.{is_locally_enabled, is_other_kernel, is_allowed, is_enabled, kernel_events, after, entry_of, replied_vpe}
+use Rattle.sem_machine.specs.Machine.{World, side, link, with_side, with_link, event, local_step, local_entry, input_of, link_moved}
+use Rattle.sem_machine.specs.Machine.{is_locally_enabled, is_other_kernel, is_allowed, is_enabled, after, entry_of, replied_vpe}
 use Rattle.sem_safety.proofs.GoingOn.{moved-sides}
 use Rattle.sem_kernel.specs.Listing.{enabled_of}
 use Rattle.sem_kernel.proofs.Passing.{some-within}

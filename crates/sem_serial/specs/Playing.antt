@@ -7,7 +7,7 @@ abbrev pub events_of : List Entry → List Event
 events_of J = map (λ e. e.event) J
 
 -- the event at that place comes next, and is not enabled
-pub record StopsAt (T : Setup) (events : List Event) (J : List Entry) (at : ℕ) : Type 0 where
+pub record IsNotEnabledAt (T : Setup) (events : List Event) (J : List Entry) (at : ℕ) : Type 0 where
   pub next : at ≡ length J
   pub event : Event
   pub there : slice_get events at ≡ Some event

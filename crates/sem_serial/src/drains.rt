@@ -37,8 +37,7 @@ pub fn drain(
     ensures drained { OnOk result (fabric.new.journal ≡ drained setup.now fabric.old.journal seed) }
     ensures complete { OnOk result (IsComplete setup.now fabric.new.journal) }
 {
-    // Shows the proof what a setup keeps.
-    let _ = &setup.vpes;
+    setup.keeps_its_rules();
     let mut lists = list_all(alloc, setup, kernels.as_slice(), fabric)?;
     let mut draws = Draws::new(seed);
     run_on(alloc, setup, kernels, fabric, &mut draws, &mut lists)
@@ -63,8 +62,7 @@ fn run_on(
         (fabric.new.journal ≡ drained_on setup.now fabric.old.journal draws.old) }
     ensures complete { OnOk result (IsComplete setup.now fabric.new.journal) }
 {
-    // Shows the proof what a setup keeps.
-    let _ = &setup.vpes;
+    setup.keeps_its_rules();
     let mut count = event_count(lists.as_slice());
     while let Some(event) = pick(lists.as_slice(), count, draws) {
         let replied = make_entry(setup, kernels, fabric, event)?;

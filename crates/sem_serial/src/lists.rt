@@ -63,8 +63,7 @@ pub fn renew(
         (map (λ list. list.items) lists.new.items)) }
     ensures count { IfOk result (λ n. n ≡ sum_by (λ list. length list.items) lists.new.items) }
 {
-    // Shows the proof what a setup keeps.
-    let _ = &setup.vpes;
+    setup.keeps_its_rules();
     if comes_due(setup, fabric, replied) {
         *lists = list_all(alloc, setup, kernels, fabric)?;
         return Ok(event_count(lists.as_slice()));
@@ -96,8 +95,7 @@ fn renew_list(
     ensures count { IfOk result (λ n. n ≡ sum_by (λ list. length list.items) lists.new.items) }
     ensures few { IfOk result (λ n. n ≤ count + most_enabled) }
 {
-    // Shows the proof what a setup keeps.
-    let _ = &setup.vpes;
+    setup.keeps_its_rules();
     let list = &mut lists[kernel as usize];
     let before = list.len();
     list.clear();

@@ -1,7 +1,7 @@
 ghost use Rattle.std.specs.Prelude.{◌≡◌, ℕ, [], length, take, OnOk, IfOk, IsErrOf};
 ghost use Rattle.sem_machine.specs.Schedules.{IsSchedule, world_after};
 ghost use Rattle.sem_machine.specs.Safety.{IsSafe};
-ghost use Rattle.sem_serial.specs.Playing.{events_of, StopsAt};
+ghost use Rattle.sem_serial.specs.Playing.{events_of, IsNotEnabledAt};
 
 use crate::faults::PlayError;
 use sem_kernel::{StepError, World};
@@ -25,11 +25,10 @@ pub fn play(
     ensures world { IfOk result (λ world. world
         ≡ record { setup = setup.now; world = world_after setup.now journal.new.entries }) }
     ensures not_enabled { (at : ℕ) → IsErrOf result (PlayError.NotEnabled at) →
-        StopsAt setup.now events.now journal.new.entries at }
+        IsNotEnabledAt setup.now events.now journal.new.entries at }
     ensures memory { IsErrOf result PlayError.Memory → journal.new.entries ≡ [] }
 {
-    // Shows the proof what a setup keeps.
-    let _ = &setup.vpes;
+    setup.keeps_its_rules();
     let mut world = World::boot(alloc, setup)?;
     let mut played = Journal::new(alloc);
     for (at, event) in events.iter().enumerate() {

@@ -40,8 +40,7 @@ impl Vpes {
         ensures declared { IfOk result (λ vpes. IsAsDeclared setup.now kernel vpes) }
         ensures table { IfOk result IsVpeTable }
     {
-        // Shows the proof what a setup keeps.
-        let _ = &setup.vpes;
+        setup.keeps_its_rules();
         let mut places = Vec::new(alloc);
         for vpe in 0..VPES {
             places.push(started(alloc, setup, kernel, vpe)?)?;

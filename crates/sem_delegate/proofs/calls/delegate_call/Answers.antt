@@ -17,7 +17,11 @@ returns-in-Some-clause-row c s =
 pub returns-clause-row : goal.returns-clause-row
 returns-clause-row c s =
     let side = with_caps c.args.caps.now.caps (with_vpes_parks_outs c.args.vpes.now.rows c.args.park.now c.args.outs.now.boxes s) in
-    ap (λ o. record { side = with_caps c.args.caps.now.caps (with_vpes_parks_outs c.make_offer.new.vpes.rows c.make_offer.new.park c.make_offer.new.outs.boxes s); outcome = o })
+    ap (λ o. record {
+      side = with_caps c.args.caps.now.caps (with_vpes_parks_outs c.make_offer.new.vpes.rows
+          c.make_offer.new.park c.make_offer.new.outs.boxes s);
+      outcome = o;
+    })
     c.nothing.ensures
     ∙ c.make_offer.ensures.row (with_caps c.args.caps.now.caps s)
     ∙ sym (delegate-done c.args.setup.now c.args.kernel side c.args.vpe c.args.src c.args.other c.args.dst (capability_of c.in-Some-and_then.cap.now)

@@ -14,12 +14,12 @@ use Rattle.sem_kernel.proofs.listing.append_calls.Goals.{After-loop-own}
 use Rattle.sem_kernel.proofs.listing.append_calls.Goals.{then-acts+in_ok-push, else-acts, then-acts-2, else-acts-2, then-acts-3, else-acts-3}
 
 pub with_vpe-resumes-requires : goal.with_vpe-resumes-requires
-with_vpe-resumes-requires c = kept-below c.args.setup.now (rw c.setup.view_is at c.setup.invariant) c.args.kernel c.own_vpes-own-items.result.now
+with_vpe-resumes-requires c = kept-below c.args.setup.now c.keeps_its_rules.ensures c.args.kernel c.own_vpes-own-items.result.now
     (c.own_vpes-own-items.ensures ∙ own-same c.args.setup.now c.args.kernels.now c.args.fabric.now c.requires.together c.args.kernel c.requires.few
     c.index-kernels-kernel.result c.index-kernels-kernel.is) c.loop-own.own-index (record { vpe = 0; calls = 0 }) c.loop-own-test.true
 
 pub with_vpe-upcalls-requires : goal.with_vpe-upcalls-requires
-with_vpe-upcalls-requires c = kept-below c.args.setup.now (rw c.setup.view_is at c.setup.invariant) c.args.kernel c.own_vpes-own-items.result.now
+with_vpe-upcalls-requires c = kept-below c.args.setup.now c.keeps_its_rules.ensures c.args.kernel c.own_vpes-own-items.result.now
     (c.own_vpes-own-items.ensures ∙ own-same c.args.setup.now c.args.kernels.now c.args.fabric.now c.requires.together c.args.kernel c.requires.few
     c.index-kernels-kernel.result c.index-kernels-kernel.is) c.loop-own.own-index (record { vpe = 0; calls = 0 }) c.loop-own-test.true
 
@@ -80,12 +80,12 @@ returns-clause-calls c =
     let i = c.args.kernel in
     row-all T W (λ (o : OwnVpe). event i (vpe_act Calls o.vpe)) (own_rows T i) c.loop-own.own-index c.args.out.now.items c.loop-own.out.items (all-seen c)
     c.loop-own.invariant.0
-    ∙ ap (λ es. c.args.out.now.items ++ es) (own-enough T W (rw c.setup.view_is at c.setup.invariant) i Calls)
+    ∙ ap (λ es. c.args.out.now.items ++ es) (own-enough T W c.keeps_its_rules.ensures i Calls)
 
 pub returns-clause-resumes : goal.returns-clause-resumes
-returns-clause-resumes c = mask-all c.args.setup.now (world_of c.args.kernels.now c.args.fabric.now) c.args.kernel Resumes (rw c.setup.view_is at
-    c.setup.invariant) c.loop-own.own-index c.loop-own.resumes (all-seen c) c.loop-own.invariant.1
+returns-clause-resumes c = mask-all c.args.setup.now (world_of c.args.kernels.now c.args.fabric.now) c.args.kernel Resumes
+    c.keeps_its_rules.ensures c.loop-own.own-index c.loop-own.resumes (all-seen c) c.loop-own.invariant.1
 
 pub returns-clause-upcalls : goal.returns-clause-upcalls
-returns-clause-upcalls c = mask-all c.args.setup.now (world_of c.args.kernels.now c.args.fabric.now) c.args.kernel Upcalls (rw c.setup.view_is at
-    c.setup.invariant) c.loop-own.own-index c.loop-own.upcalls (all-seen c) c.loop-own.invariant.2
+returns-clause-upcalls c = mask-all c.args.setup.now (world_of c.args.kernels.now c.args.fabric.now) c.args.kernel Upcalls
+    c.keeps_its_rules.ensures c.loop-own.own-index c.loop-own.upcalls (all-seen c) c.loop-own.invariant.2

@@ -28,7 +28,7 @@ returns-then-is_handling c =
 pub returns : goal.returns
 returns c =
     let k = c.index-kernels-kernel.result in
-    let valid = rw c.setup.view_is at c.setup.invariant in
+    let valid = c.keeps_its_rules.ensures in
     subst (λ es. OnOk c.append_peers.result (c.append_peers.new.out.items ≡ c.args.out.now.items ++ es))
     (fetches-kept c.args.setup.now c.args.kernels.now c.args.fabric.now c.requires.together c.args.kernel c.requires.few k c.index-kernels-kernel.is valid
     (sym c.is_handling.ensures ∙ c.if-is_handling.false) c.coming.result c.coming.ensures)

@@ -9,7 +9,7 @@ use Rattle.sem_machine.specs.Revokes.{opened}
 use Rattle.sem_machine.specs.Stores.{with_vpes}
 use Rattle.sem_machine.proofs.FirstCodes.{row-refused}
 use Rattle.sem_mark.specs.Marking.{revoking}
-use Rattle.sem_mark.proofs.Begun.{finish-none, clear-done}
+use Rattle.sem_mark.proofs.Begun.{finish-none, begins-nothing, clear-done}
 use Rattle.sem_mark.proofs.calls.clear_call.Goals as goal
 
 -- the first test that holds
@@ -27,11 +27,19 @@ returns-clause-row c s =
     ∙ sym (clear-done c.args.setup.now c.args.kernel side c.args.vpe c.args.sel (capability_of c.in-Some-and_then.cap.now) c.in_default.ensures
     (search rules))
 
-pub returns-clause-opened : goal.returns-clause-opened
-returns-clause-opened c is d held s =
-    let same : capability_of c.in-Some-and_then.cap.now ≡ d = search rules in
-    let key = ap (λ (x : Capability). x.key) same in
-    let side : Side = revoking c.args.caps.now c.args.vpes.now c.args.dtus.now c.args.jobs.now c.args.park.now c.args.outs.now s in
-    c.begin_call-done.ensures.opened (with_vpes c.args.vpes.now.rows s)
-    ∙ ap (λ (k : KeyName). opened c.args.setup.now c.args.kernel k None (c.args.vpe ∷ []) true (parked_as c.args.vpe (RevokeWait c.args.jobs.now.next) side))
-    key
+pub returns-in-Some-clause-begun : goal.returns-in-Some-clause-begun
+returns-in-Some-clause-begun c = begins-nothing _ _ _ _ _ _ _ _ _
+
+pub returns-clause-begun : goal.returns-clause-begun
+returns-clause-begun c = record {
+  opened = λ is d held s.
+      let same : capability_of c.in-Some-and_then.cap.now ≡ d = search rules in
+      let key = ap (λ (x : Capability). x.key) same in
+      let side : Side = revoking c.args.caps.now c.args.vpes.now c.args.dtus.now c.args.jobs.now c.args.park.now c.args.outs.now s in
+      c.begin_call-done.ensures.opened (with_vpes c.args.vpes.now.rows s)
+      ∙ ap (λ (k : KeyName). opened c.args.setup.now c.args.kernel k None (c.args.vpe ∷ []) true (parked_as c.args.vpe (RevokeWait c.args.jobs.now.next) side))
+      key;
+  unmarked = search rules;
+  there = search rules;
+  next = search rules;
+}

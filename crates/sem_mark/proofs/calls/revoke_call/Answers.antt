@@ -6,7 +6,7 @@ use Rattle.sem_machine.specs.Sides.{Side, parked_as}
 use Rattle.sem_machine.specs.Revokes.{opened, waiter_added}
 use Rattle.sem_machine.specs.Stores.{with_vpes}
 use Rattle.sem_mark.specs.Marking.{revoking}
-use Rattle.sem_mark.proofs.Begun.{finish-none, revoke-none, revoke-marked, revoke-open}
+use Rattle.sem_mark.proofs.Begun.{finish-none, begins-nothing, revoke-none, revoke-marked, revoke-open}
 use Rattle.sem_mark.proofs.calls.revoke_call.Goals as goal
 
 -- nothing is held
@@ -37,11 +37,22 @@ returns-clause-row c s =
     (λ i. record { side = c.begin_call-done.ensures.row (with_vpes c.args.vpes.now.rows s) i; outcome = c.cut-2.ensures i })
     ∙ sym (revoke-open c.args.setup.now c.args.kernel side c.args.vpe c.args.sel (capability_of c.in-Some.cap.now) (search rules) c.in_default-mark.is)
 
-pub returns-clause-opened : goal.returns-clause-opened
-returns-clause-opened c is d held s =
-    let same : capability_of c.in-Some.cap.now ≡ d = search rules in
-    let key = ap (λ (x : Capability). x.key) same in
-    let side : Side = revoking c.args.caps.now c.args.vpes.now c.args.dtus.now c.args.jobs.now c.args.park.now c.args.outs.now s in
-    c.begin_call-done.ensures.opened (with_vpes c.args.vpes.now.rows s)
-    ∙ ap (λ (k : KeyName). opened c.args.setup.now c.args.kernel k None (c.args.vpe ∷ []) false (parked_as c.args.vpe (RevokeWait c.args.jobs.now.next) side))
-    key
+pub returns-in_default-clause-begun : goal.returns-in_default-clause-begun
+returns-in_default-clause-begun c = begins-nothing _ _ _ _ _ _ _ _ _
+
+pub returns-in-Some-mark-clause-begun : goal.returns-in-Some-mark-clause-begun
+returns-in-Some-mark-clause-begun c = begins-nothing _ _ _ _ _ _ _ _ _
+
+pub returns-clause-begun : goal.returns-clause-begun
+returns-clause-begun c = record {
+  opened = λ is d held s.
+      let same : capability_of c.in-Some.cap.now ≡ d = search rules in
+      let key = ap (λ (x : Capability). x.key) same in
+      let side : Side = revoking c.args.caps.now c.args.vpes.now c.args.dtus.now c.args.jobs.now c.args.park.now c.args.outs.now s in
+      c.begin_call-done.ensures.opened (with_vpes c.args.vpes.now.rows s)
+      ∙ ap (λ (k : KeyName). opened c.args.setup.now c.args.kernel k None (c.args.vpe ∷ []) false (parked_as c.args.vpe (RevokeWait c.args.jobs.now.next) side))
+      key;
+  unmarked = search rules;
+  there = search rules;
+  next = search rules;
+}

@@ -34,7 +34,10 @@ make_ask-requires-clause-free c = offer-free c.args.setup.now c.args.kernel (own
 pub returns-clause-row : goal.returns-clause-row
 returns-clause-row c s =
     let side = with_caps_vpes_parks_outs c.args.caps.now.caps c.args.vpes.now.rows c.args.park.now c.args.outs.now.boxes s in
-    ap (λ o. record { side = with_caps_vpes_parks_outs c.args.caps.now.caps c.make_ask.new.vpes.rows c.make_ask.new.park c.make_ask.new.outs.boxes s; outcome = o }) c.nothing.ensures
+    ap (λ o. record {
+      side = with_caps_vpes_parks_outs c.args.caps.now.caps c.make_ask.new.vpes.rows c.make_ask.new.park c.make_ask.new.outs.boxes s;
+      outcome = o;
+    }) c.nothing.ensures
     ∙ c.make_ask.ensures.row (with_caps c.args.caps.now.caps s)
     ∙ ap (λ target. ask_made c.args.setup.now c.args.kernel c.args.vpe c.args.dst target side) c.offer_of-target.ensures.target
     ∙ sym (offer-done c.args.setup.now c.args.kernel side c.args.vpe c.args.dst c.args.session c.args.index c.in-Some-session_service.service

@@ -17,7 +17,10 @@ returns-in-Dropped-clause-row c s =
 pub returns-in-No-clause-row : goal.returns-in-No-clause-row
 returns-in-No-clause-row c s =
     let side = with_caps_vpes_parks_outs c.args.caps.now.caps c.args.vpes.now.rows c.args.park.now c.args.outs.now.boxes s in
-    ap (λ (o : Outcome). record { side = with_caps_vpes_parks_outs c.args.caps.now.caps c.refuse_ask.new.vpes.rows c.refuse_ask.new.park c.refuse_ask.new.outs.boxes s; outcome = o })
+    ap (λ (o : Outcome). record {
+      side = with_caps_vpes_parks_outs c.args.caps.now.caps c.refuse_ask.new.vpes.rows c.refuse_ask.new.park c.refuse_ask.new.outs.boxes s;
+      outcome = o;
+    })
     (search rules)
     ∙ ap (λ t. asking c.args.place.vpe No (unshown t)) (c.refuse_ask.ensures.row c.args.target (with_caps c.args.caps.now.caps s))
     ∙ sym (decided-denied c.args.setup.now c.args.kernel c.args.vpe c.args.place c.args.target side (sym c.answer.ensures ∙ search rules))

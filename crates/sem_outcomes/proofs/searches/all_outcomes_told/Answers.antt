@@ -1,5 +1,4 @@
 use Rattle.std.proofs.Common.{arith, [], sym, subst, refl}
-use Rattle.sem_msg.specs.Setup.{IsSetup}
 use Rattle.sem_outcomes.specs.Endings.{ListsEndings}
 use Rattle.sem_outcomes.proofs.Finishing.{all-told, counts-told, few-told}
 use Rattle.sem_outcomes.proofs.Listing.{endings-none}
@@ -22,7 +21,7 @@ pub returns-clause-all : goal.returns-clause-all
 returns-clause-all g c =
     let l = c.loop-at in
     all-told c.args.setup.now c.args.limit l.at l.histories l.invariant.0 (omega arith) l.found.items l.invariant.1
-    (subst IsSetup c.setup.view_is c.setup.invariant)
+    c.keeps_its_rules.ensures
 
 pub returns-clause-counts : goal.returns-clause-counts
 returns-clause-counts g c =

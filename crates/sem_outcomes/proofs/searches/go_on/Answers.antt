@@ -1,9 +1,8 @@
-use Rattle.std.proofs.Common.{arith, List, length, sym, ◌∙◌, ap, subst}
+use Rattle.std.proofs.Common.{arith, List, length, sym, ◌∙◌, ap}
 use Rattle.std.specs.Vec.{vec_len}
 use Rattle.std.proofs.lemmas.Bool.{eqb-true, eqb-false}
 use Rattle.std.proofs.lemmas.List.{nil_from_length}
 use Rattle.std.proofs.lemmas.Result.{on_ok_weaker}
-use Rattle.sem_msg.specs.Setup.{IsSetup}
 use Rattle.sem_machine.specs.Machine.{enabled}
 use Rattle.sem_kernel.specs.KernelValue.{KernelValue}
 use Rattle.sem_kernel.specs.Worlds.{world_of}
@@ -23,7 +22,7 @@ list_ending-requires-clause-complete c =
     let zero = eqb-true (vec_len out) 0 (sym c.is_empty.ensures ∙ c.if-is_empty.true) in
     let none = nil_from_length out.items (omega (arith, zero, out.ok.0)) in
     is-complete T c.args.limit c.args.at c.args.histories.now _ c.histories.view_is c.requires.search c.requires.at ks f c.in_ok-kernels.ensures.stand entered
-    out.items all none (subst IsSetup c.setup.view_is c.setup.invariant)
+    out.items all none c.keeps_its_rules.ensures
 
 pub returns-then-is_empty-clause-search : goal.returns-then-is_empty-clause-search
 returns-then-is_empty-clause-search c =

@@ -1,6 +1,5 @@
-use Rattle.std.proofs.Common.{refl, subst}
-use Rattle.sem_msg.specs.Setup.{IsSetup}
-use Rattle.sem_machine.specs.Seeded.{generator_of}
+use Rattle.std.proofs.Common.{refl}
+use Rattle.sem_pick.specs.Seeds.{generator_of}
 use Rattle.sem_bound.proofs.Spent.{limited}
 use Rattle.sem_serial.proofs.Running.{part-of}
 use Rattle.sem_serial.proofs.drains.drain.Goals as goal
@@ -12,7 +11,7 @@ returns-in_err-lists-clause-prefix c = part-of c.args.setup.now c.args.fabric.no
 
 -- a schedule has few entries
 pub returns-in_err-lists-clause-few : goal.returns-in_err-lists-clause-few
-returns-in_err-lists-clause-few c = limited c.args.setup.now (subst IsSetup c.setup.view_is c.setup.invariant) c.args.fabric.now.journal c.requires.schedule
+returns-in_err-lists-clause-few c = limited c.args.setup.now c.keeps_its_rules.ensures c.args.fabric.now.journal c.requires.schedule
 
 pub returns-clause-few : goal.returns-clause-few
-returns-clause-few c = limited c.args.setup.now (subst IsSetup c.setup.view_is c.setup.invariant) c.run_on.new.fabric.journal c.run_on.ensures.stand.schedule
+returns-clause-few c = limited c.args.setup.now c.keeps_its_rules.ensures c.run_on.new.fabric.journal c.run_on.ensures.stand.schedule

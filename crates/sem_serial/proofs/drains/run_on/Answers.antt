@@ -1,7 +1,6 @@
 use Rattle.std.proofs.Common.{◌≡◌, ◌<◌, ◌∙◌, true, List, [], ◌∷◌, length, map, length-append, refl, sym, ap, subst, arith}
 use Rattle.std.specs.List.{flat_map}
 use Rattle.rand_pcg.specs.Pcg.{pcg32}
-use Rattle.sem_msg.specs.Setup.{IsSetup}
 use Rattle.sem_machine.specs.Machine.{entry_of, is_enabled}
 use Rattle.sem_machine.specs.Seeded.{entry_limit, picked}
 use Rattle.sem_kernel.specs.KernelValue.{KernelValue}
@@ -16,7 +15,7 @@ use Rattle.sem_serial.proofs.drains.run_on.Goals as goal
 -- the events are few
 pub event_count-count-requires : goal.event_count-count-requires
 event_count-count-requires c =
-    let few = few-listed c.args.setup.now (rw c.setup.view_is at c.setup.invariant) (λ list. list.items) (world_of c.args.kernels.now.items c.args.fabric.now)
+    let few = few-listed c.args.setup.now c.keeps_its_rules.ensures (λ list. list.items) (world_of c.args.kernels.now.items c.args.fabric.now)
     c.args.lists.now.items c.requires.listed in
     rw c.as_slice.ensures.value (omega (arith, few))
 
@@ -42,7 +41,7 @@ returns-clause-complete c =
     let l = c.loop-event in
     let told = sym (c.pick.ensures.event ∙ ap (picked (pcg32 l.draws).0) (ap (flat_map (λ list. list.items)) c.as_slice-in-loop-event.ensures.value
     ∙ together (λ list. list.items) T (world_of l.kernels.items l.fabric) l.lists.items l.invariant.0.listed)) in
-    quiet-complete T (subst IsSetup c.setup.view_is c.setup.invariant) l.fabric.journal l.invariant.0.stand.schedule
+    quiet-complete T c.keeps_its_rules.ensures l.fabric.journal l.invariant.0.stand.schedule
     (quiet-after T c.args.fabric.now.journal c.args.draws.now l.kernels.items l.fabric (map (λ list. list.items) l.lists.items) l.draws l.invariant.0 (told
     ∙ c.in_default.is))
 
@@ -64,7 +63,7 @@ loop-event-preserved c =
     ∙ together (λ list. list.items) T (world_of l.kernels.items l.fabric) l.lists.items l.invariant.0.listed)) in
     let on = picked-enabled T (world_of l.kernels.items l.fabric) (pcg32 l.draws).0 c.in-Some.event (told ∙ c.in-Some.is) in
     let left : length l.fabric.journal < entry_limit T =
-    goes-on T (subst IsSetup c.setup.view_is c.setup.invariant) l.fabric.journal l.invariant.0.stand.schedule c.in-Some.event
+    goes-on T c.keeps_its_rules.ensures l.fabric.journal l.invariant.0.stand.schedule c.in-Some.event
     (subst (λ V. is_enabled T V c.in-Some.event ≡ true) l.invariant.0.stand.world on) in (
       record {
         stand = c.make_entry.ensures.stand;
@@ -86,7 +85,7 @@ returns-in_err-count-clause-prefix c =
     ∙ together (λ list. list.items) T (world_of l.kernels.items l.fabric) l.lists.items l.invariant.0.listed)) in
     let on = picked-enabled T (world_of l.kernels.items l.fabric) (pcg32 l.draws).0 c.in-Some.event (told ∙ c.in-Some.is) in
     let left : length l.fabric.journal < entry_limit T =
-    goes-on T (subst IsSetup c.setup.view_is c.setup.invariant) l.fabric.journal l.invariant.0.stand.schedule c.in-Some.event
+    goes-on T c.keeps_its_rules.ensures l.fabric.journal l.invariant.0.stand.schedule c.in-Some.event
     (subst (λ V. is_enabled T V c.in-Some.event ≡ true) l.invariant.0.stand.world on) in
     part-of T c.args.fabric.now.journal c.args.draws.now c.make_entry.new.fabric.journal c.pick.new.draws
     (to-come-more T c.args.fabric.now.journal c.args.draws.now l.kernels.items l.fabric (map (λ list. list.items) l.lists.items) l.draws l.invariant.0
@@ -116,7 +115,7 @@ loop-event-smaller c =
     ∙ together (λ list. list.items) T (world_of l.kernels.items l.fabric) l.lists.items l.invariant.0.listed)) in
     let on = picked-enabled T (world_of l.kernels.items l.fabric) (pcg32 l.draws).0 c.in-Some.event (told ∙ c.in-Some.is) in
     let left : length l.fabric.journal < entry_limit T =
-    goes-on T (subst IsSetup c.setup.view_is c.setup.invariant) l.fabric.journal l.invariant.0.stand.schedule c.in-Some.event
+    goes-on T c.keeps_its_rules.ensures l.fabric.journal l.invariant.0.stand.schedule c.in-Some.event
     (subst (λ V. is_enabled T V c.in-Some.event ≡ true) l.invariant.0.stand.world on) in
     let long = ap length c.in_ok-replied.ensures.journal
     ∙ length-append l.fabric.journal (entry_of T (world_of l.kernels.items l.fabric) c.in-Some.event ∷ []) in

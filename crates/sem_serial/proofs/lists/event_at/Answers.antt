@@ -1,4 +1,4 @@
-use Rattle.std.proofs.Common.{◌≡◌, ◌+◌, ◌-◌, ◌∙◌, drop, Some, slice_get, sym, ap, subst, arith}
+use Rattle.std.proofs.Common.{◌+◌, ◌-◌, ◌∙◌, drop, Some, slice_get, sym, ap, arith}
 use Rattle.std.specs.List.{flat_map}
 use Rattle.sem_serial.proofs.Renewing.{flat-at, flat-here, flat-later}
 use Rattle.sem_serial.proofs.lists.event_at.Goals as goal

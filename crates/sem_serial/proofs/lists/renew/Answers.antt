@@ -1,9 +1,8 @@
-use Rattle.std.proofs.Common.{◌≡◌, map, Some, sym, ◌∙◌, subst, inl, ◌⊎◌, arith}
+use Rattle.std.proofs.Common.{◌≡◌, map, Some, sym, ◌∙◌, inl, ◌⊎◌, arith}
 use Rattle.sem_kernel.specs.Listing.{enabled_of}
 use Rattle.sem_kernel.specs.Worlds.{world_of}
 use Rattle.sem_kernel.proofs.Happened.{enabled-few}
 use Rattle.sem_serial.specs.Listed.{touched_peer}
-use Rattle.sem_msg.specs.Setup.{IsSetup}
 use Rattle.sem_serial.proofs.Counting.{few-listed}
 use Rattle.sem_serial.proofs.Renewing.{some-same, none-some, listed-count, renewed-count, enabled-names, peer-few, renewing-start, renewing-one, renewing-all}
 use Rattle.sem_serial.proofs.lists.renew.Goals as goal
@@ -74,19 +73,19 @@ returns-clause-listed c =
 -- what was listed is few
 pub event_count-requires : goal.event_count-requires
 event_count-requires c =
-    let few = few-listed c.args.setup.now (subst IsSetup c.setup.view_is c.setup.invariant) (λ list. list.items) (world_of c.args.kernels.now c.args.fabric.now)
+    let few = few-listed c.args.setup.now c.keeps_its_rules.ensures (λ list. list.items) (world_of c.args.kernels.now c.args.fabric.now)
     c.in_ok-lists.field-0.items c.in_ok-lists.ensures in
     rw c.as_slice.ensures.value (omega (arith, few))
 
 pub renew_list-requires-clause-few : goal.renew_list-requires-clause-few
 renew_list-requires-clause-few c =
     let (before, enabled, happened, told, listed) = c.requires.happened in
-    let few = few-listed c.args.setup.now (subst IsSetup c.setup.view_is c.setup.invariant) (λ list. list.items) before c.args.lists.now.items listed in
+    let few = few-listed c.args.setup.now c.keeps_its_rules.ensures (λ list. list.items) before c.args.lists.now.items listed in
     omega (arith, few, c.requires.count)
 
 pub renew_list-requires-2-clause-few : goal.renew_list-requires-2-clause-few
 renew_list-requires-2-clause-few c =
     let (before, enabled, happened, told, listed) = c.requires.happened in
-    let few = few-listed c.args.setup.now (subst IsSetup c.setup.view_is c.setup.invariant) (λ list. list.items) before c.args.lists.now.items listed in
+    let few = few-listed c.args.setup.now c.keeps_its_rules.ensures (λ list. list.items) before c.args.lists.now.items listed in
     let more = c.in_ok-own.ensures.few in
     omega (arith, few, c.requires.count, more)

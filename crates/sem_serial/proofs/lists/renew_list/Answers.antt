@@ -1,7 +1,6 @@
 use Rattle.std.proofs.Common.{◌≤◌, List, set, map, ◌++◌, length, ap, subst, sym, ◌∙◌, arith}
 use Rattle.std.proofs.lemmas.List.{map-set}
 use Rattle.sem_msg.specs.declared.event.Event.{Event}
-use Rattle.sem_msg.specs.Setup.{IsSetup}
 use Rattle.sem_kernel.specs.Listing.{enabled_of}
 use Rattle.sem_kernel.specs.Worlds.{world_of}
 use Rattle.sem_serial.specs.Listed.{most_enabled}
@@ -22,7 +21,7 @@ overflow_add-result c =
     let W = world_of c.args.kernels.now c.args.fabric.now in
     let is = c.in_ok-append_enabled.ensures ∙ ap (λ es. es ++ enabled_of T W c.args.kernel) c.clear.ensures.items in
     let new : length c.append_enabled.new.out.items ≤ most_enabled =
-    subst (λ (es : List Event). length es ≤ most_enabled) (sym is) (few-enabled T (subst IsSetup c.setup.view_is c.setup.invariant) W c.args.kernel) in
+    subst (λ (es : List Event). length es ≤ most_enabled) (sym is) (few-enabled T c.keeps_its_rules.ensures W c.args.kernel) in
     let few = c.requires.few in
     omega (arith, new, few, c.len.ensures)
 
@@ -48,5 +47,5 @@ returns-clause-few c =
     let W = world_of c.args.kernels.now c.args.fabric.now in
     let is = c.in_ok-append_enabled.ensures ∙ ap (λ es. es ++ enabled_of T W c.args.kernel) c.clear.ensures.items in
     let new : length c.append_enabled.new.out.items ≤ most_enabled =
-    subst (λ (es : List Event). length es ≤ most_enabled) (sym is) (few-enabled T (subst IsSetup c.setup.view_is c.setup.invariant) W c.args.kernel) in
+    subst (λ (es : List Event). length es ≤ most_enabled) (sym is) (few-enabled T c.keeps_its_rules.ensures W c.args.kernel) in
     omega (arith, new, c.len.ensures)

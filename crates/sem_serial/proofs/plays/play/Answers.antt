@@ -4,8 +4,7 @@ use Rattle.sem_msg.specs.declared.event.Act.TheVariants.{Call as Calls}
 use Rattle.sem_msg.specs.declared.event.Event.{Event}
 use Rattle.sem_machine.specs.Machine.{is_enabled}
 use Rattle.sem_machine.specs.Schedules.{IsSchedule}
-use Rattle.sem_msg.specs.Setup.{IsSetup}
-use Rattle.sem_kernel.specs.declared.happening.StepError.TheVariants.{NotEnabled}
+use Rattle.sem_kernel.specs.declared.events.StepError.TheVariants.{NotEnabled}
 use Rattle.sem_revoke.proofs.Safe.{all-safe}
 use Rattle.sem_machine.proofs.Pushing.{schedule-empty}
 use Rattle.sem_serial.proofs.Played.{playing-start, playing-more, played-none, stops, ok-enabled}
@@ -40,14 +39,14 @@ loop-at-preserved c =
 
 -- a schedule is safe
 pub returns-in_err-world-clause-safe : goal.returns-in_err-world-clause-safe
-returns-in_err-world-clause-safe c = all-safe c.args.setup.now (subst IsSetup c.setup.view_is c.setup.invariant) c.args.journal.now.entries
+returns-in_err-world-clause-safe c = all-safe c.args.setup.now c.keeps_its_rules.ensures c.args.journal.now.entries
     (schedule-empty c.args.setup.now c.args.journal.now.entries c.requires)
 
 pub returns-in_err-room-clause-schedule : goal.returns-in_err-room-clause-schedule
 returns-in_err-room-clause-schedule c = schedule-empty c.args.setup.now c.loop-at.journal.entries c.loop-at.invariant.1
 
 pub returns-in_err-room-clause-safe : goal.returns-in_err-room-clause-safe
-returns-in_err-room-clause-safe c = all-safe c.args.setup.now (subst IsSetup c.setup.view_is c.setup.invariant) c.loop-at.journal.entries
+returns-in_err-room-clause-safe c = all-safe c.args.setup.now c.keeps_its_rules.ensures c.loop-at.journal.entries
     (schedule-empty c.args.setup.now c.loop-at.journal.entries c.loop-at.invariant.1)
 
 pub returns-in_err-room-clause-events : goal.returns-in_err-room-clause-events
@@ -57,14 +56,14 @@ pub returns-in_err-room-clause-memory : goal.returns-in_err-room-clause-memory
 returns-in_err-room-clause-memory c = λ memory. c.loop-at.invariant.1
 
 pub returns-in-Err-NotEnabled-clause-safe : goal.returns-in-Err-NotEnabled-clause-safe
-returns-in-Err-NotEnabled-clause-safe c = all-safe c.args.setup.now (subst IsSetup c.setup.view_is c.setup.invariant) c.room.new.self.entries
+returns-in-Err-NotEnabled-clause-safe c = all-safe c.args.setup.now c.keeps_its_rules.ensures c.room.new.self.entries
     (subst (IsSchedule c.args.setup.now) (sym c.room.ensures.entries) c.loop-at.invariant.0.schedule)
 
 pub returns-in-Err-Memory-clause-schedule : goal.returns-in-Err-Memory-clause-schedule
 returns-in-Err-Memory-clause-schedule c = schedule-empty c.args.setup.now c.loop-at.journal.entries c.loop-at.invariant.1
 
 pub returns-in-Err-Memory-clause-safe : goal.returns-in-Err-Memory-clause-safe
-returns-in-Err-Memory-clause-safe c = all-safe c.args.setup.now (subst IsSetup c.setup.view_is c.setup.invariant) c.loop-at.journal.entries
+returns-in-Err-Memory-clause-safe c = all-safe c.args.setup.now c.keeps_its_rules.ensures c.loop-at.journal.entries
     (schedule-empty c.args.setup.now c.loop-at.journal.entries c.loop-at.invariant.1)
 
 pub returns-in-Err-Memory-clause-events : goal.returns-in-Err-Memory-clause-events
@@ -74,4 +73,4 @@ pub returns-in-Err-Memory-clause-memory : goal.returns-in-Err-Memory-clause-memo
 returns-in-Err-Memory-clause-memory c = λ memory. c.loop-at.invariant.1
 
 pub returns-clause-safe : goal.returns-clause-safe
-returns-clause-safe c = all-safe c.args.setup.now (subst IsSetup c.setup.view_is c.setup.invariant) c.loop-at.played.entries c.loop-at.invariant.0.schedule
+returns-clause-safe c = all-safe c.args.setup.now c.keeps_its_rules.ensures c.loop-at.played.entries c.loop-at.invariant.0.schedule

@@ -33,7 +33,8 @@ loop-ask-preserved c =
     let s0 : Side → Side = λ s. with_vpes_parks_outs c.loop-ask.vpes.rows c.loop-ask.park c.loop-ask.outs.boxes s in
     let s1 : Side → Side = λ s. with_vpes_parks_outs c.next_ask.new.self.rows c.loop-ask.park c.loop-ask.outs.boxes s in
     let s2 : Side → Side = λ s. with_vpes_parks_outs c.end_ask.new.vpes.rows c.end_ask.new.park c.end_ask.new.outs.boxes s in
-    let taken : (s : Side) → s1 s ≡ ask_taken v (s0 s) = λ s. ap (λ (t : VpeTable). with_vpes_parks_outs t.rows c.loop-ask.park c.loop-ask.outs.boxes s) c.in-Some.ensures.taken in
+    let taken : (s : Side) → s1 s ≡ ask_taken v (s0 s) =
+    λ s. ap (λ (t : VpeTable). with_vpes_parks_outs t.rows c.loop-ask.park c.loop-ask.outs.boxes s) c.in-Some.ensures.taken in
     let left : (row c.end_ask.new.vpes.rows v).asks ≡ drop 1 asks = turn-asks T i v a (s0 no_side) (s1 no_side) (s2 no_side) (taken no_side)
     (c.end_ask.ensures.row no_side) in
     let less = rest-length a asks c.in-Some.ensures.front in
@@ -51,5 +52,6 @@ pub returns-clause-row : goal.returns-clause-row
 returns-clause-row c s =
     let s0 : Side = with_vpes_parks_outs c.loop-ask.vpes.rows c.loop-ask.park c.loop-ask.outs.boxes s in
     let s1 : Side = with_vpes_parks_outs c.next_ask.new.self.rows c.loop-ask.park c.loop-ask.outs.boxes s in
-    last-row c.args.setup.now c.args.kernel c.args.vpe s0 s1 (ap (λ (t : VpeTable). with_vpes_parks_outs t.rows c.loop-ask.park c.loop-ask.outs.boxes s) c.in_default.ensures.taken)
+    last-row c.args.setup.now c.args.kernel c.args.vpe s0 s1 (ap (λ (t : VpeTable). with_vpes_parks_outs t.rows c.loop-ask.park c.loop-ask.outs.boxes s)
+    c.in_default.ensures.taken)
     (search rules) ∙ c.loop-ask.invariant.row s

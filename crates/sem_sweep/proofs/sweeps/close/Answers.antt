@@ -33,7 +33,8 @@ returns-clause-row c s =
     let removed : with_caps_vpes_parks_outs caps2.caps vpes2.rows c.args.park.now outs.boxes s ≡ swept x s0 =
     c.remove_caps.ensures.row (with_parks c.args.park.now (with_outs outs.boxes s))
     ∙ ap (λ j. marked_removed j (with_caps_vpes_parks_outs c.spare_root.new.caps.caps c.args.vpes.now.rows c.args.park.now outs.boxes s)) id
-    ∙ ap (λ (cs : List Capability). marked_removed x.id (with_caps cs (with_vpes_parks_outs c.args.vpes.now.rows c.args.park.now outs.boxes s))) c.spare_root.ensures.caps in
+    ∙ ap (λ (cs : List Capability). marked_removed x.id (with_caps cs (with_vpes_parks_outs c.args.vpes.now.rows c.args.park.now outs.boxes s)))
+    c.spare_root.ensures.caps in
     let park : c.wake_all.new.park ≡ all_woken x.waiters c.args.park.now = c.wake_all.ensures ∙ ap (λ vs. all_woken vs c.args.park.now) ws in
     let woken1 : with_caps_vpes_parks_outs caps2.caps vpes2.rows c.wake_all.new.park outs.boxes s ≡ woken x.waiters (swept x s0) =
     ap (λ (ps : List (Option Parked)). with_caps_vpes_parks_outs caps2.caps vpes2.rows ps outs.boxes s) park ∙ ap (woken x.waiters) removed in

@@ -68,7 +68,8 @@ loop-next-preserved c =
           let out : sweeping c.loop-next.caps c.loop-next.vpes c.take.new.self c.loop-next.park c.loop-next.outs s ≡ job_removed x.id s0 =
           rw (c.in-Some-take.ensures.jobs, c.in-Some-take.ensures.next, x_id) refl in
           let closed1 = c.close.ensures.row (with_jobs c.take.new.self.jobs c.take.new.self.next s) ∙ ap (closed_here T i x) out in
-          let here : s3 ≡ closed T i x s0 = c.tell_up-next.ensures.row (with_caps_vpes_parks_outs c.close.new.caps.caps c.close.new.vpes.rows c.close.new.park c.close.new.outs.boxes s)
+          let here : s3 ≡ closed T i x s0 = c.tell_up-next.ensures.row
+          (with_caps_vpes_parks_outs c.close.new.caps.caps c.close.new.vpes.rows c.close.new.park c.close.new.outs.boxes s)
           ∙ (ap (up_told up) closed1 ∙ ap (λ u. up_told u (closed_here T i x (job_removed x.id s0))) same_up) in
           finish-turn T i (length zs) (length xs) x up s0 s3 (option_and_then (job_of zs) c.tell_up-next.result) (option_and_then (job_of xs) c.loop-next.next)
           (omega (arith, less, told, taken)) (ap (option_and_then (job_of xs)) c.in-Some.is ∙ found) same_up here c.tell_up-next.ensures.next

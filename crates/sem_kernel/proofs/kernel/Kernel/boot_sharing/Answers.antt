@@ -11,10 +11,10 @@ invariant_of-result c =
     let one : c.args.id < c.get-setup.result.now.kernels = rw c.get-setup.ensures c.requires in
     subst (λ S. IsKernel S c.args.id c.in_ok-stores.stores None c.in_ok-own.own.items) (c.get-setup.ensures ∙ sym c.in_ok-share.ensures) (record {
       are = record {
-        setup = rw c.setup.view_is at c.setup.invariant;
+        setup = c.keeps_its_rules.ensures;
         is_one = one;
         stores = c.in_ok-stores.ensures.stores;
-        sound = subst (IsSound T c.args.id) (sym c.in_ok-stores.ensures.side) (start-sound T (rw c.setup.view_is at c.setup.invariant) c.args.id one);
+        sound = subst (IsSound T c.args.id) (sym c.in_ok-stores.ensures.side) (start-sound T c.keeps_its_rules.ensures c.args.id one);
       };
       room = tt;
       known = c.in_ok-own.ensures;

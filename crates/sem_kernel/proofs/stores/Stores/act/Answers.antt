@@ -10,11 +10,11 @@ returns-in-Handle c = does-handle c.args.setup.now c.args.kernel c.args.self.now
 
 pub returns-in-Upcall : goal.returns-in-Upcall
 returns-in-Upcall c = does-upcall c.args.setup.now c.args.kernel c.args.self.now c.args.input.now _ _ _ c.in-Upcall.vpe c.args.act c.in-Upcall.is
-    c.be_asked.ensures
+    c.upcall_next.ensures
 
 pub returns-in-Resume : goal.returns-in-Resume
 returns-in-Resume c = does-resume c.args.setup.now c.args.kernel c.args.self.now c.args.input.now _ _ _ c.in-Resume.vpe c.args.act c.in-Resume.is
-    c.go_on.ensures
+    c.resume_parked.ensures
 
 pub returns-in-Flush : goal.returns-in-Flush
 returns-in-Flush c = does-flush c.args.setup.now c.args.kernel c.args.self.now c.args.input.now _ _ _ c.in-Flush.to c.args.act c.in-Flush.is c.flush.ensures
@@ -34,14 +34,14 @@ handle_next-requires c = record {
       c.requires.are c.requires.enabled c.requires.ready;
 }
 
-pub be_asked-requires : goal.be_asked-requires
-be_asked-requires c = record {
+pub upcall_next-requires : goal.upcall_next-requires
+upcall_next-requires c = record {
   can = can-act c.args.setup.now c.args.kernel c.args.self.now c.args.act _ c.in-Upcall.is
       c.requires.are c.requires.enabled c.requires.ready;
 }
 
-pub go_on-requires : goal.go_on-requires
-go_on-requires c = record {
+pub resume_parked-requires : goal.resume_parked-requires
+resume_parked-requires c = record {
   can = can-act c.args.setup.now c.args.kernel c.args.self.now c.args.act _ c.in-Resume.is
       c.requires.are c.requires.enabled c.requires.ready;
 }

@@ -11,7 +11,7 @@ use Rattle.sem_kernel.proofs.stores.Stores.boot.Goals as goal
 
 pub returns-clause-side : goal.returns-clause-side
 returns-clause-side c =
-    let valid : IsSetup c.args.setup.now = rw (← c.setup.view_is) c.setup.invariant in
+    let valid : IsSetup c.args.setup.now = c.keeps_its_rules.ensures in
     let outs = rw (ap (λ (T : Setup). T.kernels) c.setup.view_is) at c.in_ok-new-5.ensures in
     side-start c.args.setup.now valid c.args.kernel c.requires _ c.in_ok-start_caps.ensures
     (ap (λ (t : VpeTable). t.rows) c.in_ok-new.ensures.start)
@@ -38,7 +38,7 @@ returns-clause-side c =
 pub returns-clause-stores : goal.returns-clause-stores
 returns-clause-stores c =
     let T : Setup = c.args.setup.now in
-    let valid : IsSetup c.args.setup.now = rw (← c.setup.view_is) c.setup.invariant in
+    let valid : IsSetup c.args.setup.now = c.keeps_its_rules.ensures in
     let outs = rw (ap (λ (T : Setup). T.kernels) c.setup.view_is) at c.in_ok-new-5.ensures in
     record {
       vpes = λ v here. (c.in_ok-new.ensures.declared.ours v).1 (own-here T valid c.args.kernel c.requires v here);

@@ -92,7 +92,8 @@ pub call-outcome-requires-clause-revoke : goal.call-outcome-requires-clause-revo
 call-outcome-requires-clause-revoke c revoking =
     let next : next_call c.args.setup.now (side_of c.args.self.now) c.args.vpe ≡ Some c.in-Some.call = search rules in
     let room = c.requires.can.ready.revoke (ap (λ (o : Option Call). option_map_or is_revoking o false) next ∙ revoking) in
-    let asks = ap length (counted-asks c.args.setup.now c.requires.can.are.setup c.args.kernel c.requires.can.are.is_one (side_of c.args.self.now) c.requires.can.are.sound
+    let asks = ap length (counted-asks c.args.setup.now c.requires.can.are.setup c.args.kernel c.requires.can.are.is_one
+    (side_of c.args.self.now) c.requires.can.are.sound
     c.args.vpe (call-here c.args.setup.now c.args.kernel (side_of c.args.self.now) c.args.vpe c.requires.can.enabled) c.advance.new.self.rows
     (ap (λ (t : VpeTable). t.rows) c.advance.ensures) c.in-Some.call next) in
     record {

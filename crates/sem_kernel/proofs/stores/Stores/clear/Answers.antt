@@ -1,7 +1,8 @@
-use Rattle.std.proofs.Common.{◌∙◌, true, ap, arith, rules}
+use Rattle.std.proofs.Common.{◌∙◌, true, refl, ap, arith, rules}
 use Rattle.sem_machine.specs.Sides.{Side}
 use Rattle.sem_sound.proofs.Meeting.{ids-fit}
-use Rattle.sem_kernel.proofs.Openings.{lead-home, call-middle, call-jobs, call-caps}
+use Rattle.sem_kernel.proofs.BegunCalls.{begun-sound, begun-jobs, begun-caps}
+use Rattle.sem_kernel.proofs.Openings.{lead-home}
 use Rattle.sem_machine.specs.Steps.{step_of}
 use Rattle.sem_kernel.specs.KernelStores.{side_of}
 use Rattle.sem_kernel.proofs.stores.Stores.clear.Goals as goal
@@ -15,26 +16,22 @@ clear_call-outcome-requires c =
     search (rules, fit, home)
 
 pub finish-requires-clause-sound : goal.finish-requires-clause-sound
-finish-requires-clause-sound c =
-    call-middle c.args.setup.now c.requires.can.are.setup c.args.kernel c.requires.can.are.is_one (side_of c.args.self.now) c.requires.can.are.sound c.args.vpe c.args.src
-    c.requires.can.here c.requires.idle true c.requires.pays c.clear_call-outcome.result.1 _ c.clear_call-outcome.ensures.done
-    c.clear_call-outcome.ensures.unmarked
-    (λ some p at. c.clear_call-outcome.ensures.opened some p at (side_of c.args.self.now))
+finish-requires-clause-sound c = begun-sound c.args.setup.now c.args.kernel c.args.vpe c.args.src c.args.self.now c.requires.can true _ _ _ _
+    c.clear_call-outcome.ensures.begun refl
+    c.requires.idle c.requires.pays
 
 pub finish-requires-clause-outs : goal.finish-requires-clause-outs
 finish-requires-clause-outs c some =
-    let jobs = call-jobs c.args.setup.now c.requires.can.are.setup c.args.kernel c.requires.can.are.is_one (side_of c.args.self.now) c.requires.can.are.sound c.args.vpe
-    c.args.src true c.clear_call-outcome.result.1 _ c.clear_call-outcome.ensures.unmarked
-    (λ some' p at. c.clear_call-outcome.ensures.opened some' p at (side_of c.args.self.now)) some in
+    let jobs = begun-jobs c.args.setup.now c.args.kernel c.args.vpe c.args.src c.args.self.now c.requires.can true _ _ _ _
+    c.clear_call-outcome.ensures.begun refl some in
     let spare = c.clear_call-outcome.ensures.left.spare in
     let room = c.requires.room.outs in
     omega (arith, jobs, spare, room)
 
 pub finish-requires-clause-gone : goal.finish-requires-clause-gone
 finish-requires-clause-gone c some =
-    let caps = call-caps c.args.setup.now c.requires.can.are.setup c.args.kernel c.requires.can.are.is_one (side_of c.args.self.now) c.requires.can.are.sound c.args.vpe
-    c.args.src true c.clear_call-outcome.result.1 _ c.clear_call-outcome.ensures.unmarked
-    (λ some' p at. c.clear_call-outcome.ensures.opened some' p at (side_of c.args.self.now)) some in
+    let caps = begun-caps c.args.setup.now c.args.kernel c.args.vpe c.args.src c.args.self.now c.requires.can true _ _ _ _
+    c.clear_call-outcome.ensures.begun refl some in
     let gone = c.clear_call-outcome.ensures.left.gone in
     let room = c.requires.room.gone in
     omega (arith, caps, gone, room)

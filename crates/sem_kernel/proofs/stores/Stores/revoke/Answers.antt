@@ -1,11 +1,12 @@
-use Rattle.std.proofs.Common.{◌∙◌, false, ap, arith, rules}
+use Rattle.std.proofs.Common.{◌∙◌, false, refl, ap, arith, rules}
 use Rattle.std.specs.Prelude.{IfSome, IsSome}
 use Rattle.sem_msg.specs.JobRows.{job_of}
 use Rattle.sem_machine.specs.Sides.{Side}
 use Rattle.sem_sound.proofs.Meeting.{ids-fit}
 use Rattle.sem_sound.proofs.Revoking.{slack-of}
 use Rattle.sem_kernel.proofs.Meets.{own-sound}
-use Rattle.sem_kernel.proofs.Openings.{lead-home, call-middle, call-jobs, call-caps, marker-there}
+use Rattle.sem_kernel.proofs.BegunCalls.{begun-sound, begun-jobs, begun-caps}
+use Rattle.sem_kernel.proofs.Openings.{lead-home, marker-there}
 use Rattle.sem_machine.specs.Steps.{step_of}
 use Rattle.sem_kernel.specs.KernelStores.{side_of}
 use Rattle.sem_kernel.proofs.stores.Stores.revoke.Goals as goal
@@ -25,27 +26,23 @@ revoke_call-outcome-requires-clause-can c =
     search (rules, fit, home)
 
 pub finish-requires-clause-sound : goal.finish-requires-clause-sound
-finish-requires-clause-sound c =
-    call-middle c.args.setup.now c.requires.can.are.setup c.args.kernel c.requires.can.are.is_one (side_of c.args.self.now) c.requires.can.are.sound c.args.vpe c.args.src
-    c.requires.can.here c.requires.idle false (slack-of c.args.setup.now c.requires.can.are.setup c.args.kernel c.requires.can.are.is_one
-    (side_of c.args.self.now) c.requires.can.are.sound) c.revoke_call-outcome.result.1 _ c.revoke_call-outcome.ensures.done
-    c.revoke_call-outcome.ensures.unmarked
-    (λ some p at. c.revoke_call-outcome.ensures.opened some p at (side_of c.args.self.now))
+finish-requires-clause-sound c = begun-sound c.args.setup.now c.args.kernel c.args.vpe c.args.src c.args.self.now c.requires.can false _ _ _ _
+    c.revoke_call-outcome.ensures.begun refl
+    c.requires.idle (slack-of c.args.setup.now c.requires.can.are.setup c.args.kernel c.requires.can.are.is_one
+    (side_of c.args.self.now) c.requires.can.are.sound)
 
 pub finish-requires-clause-outs : goal.finish-requires-clause-outs
 finish-requires-clause-outs c some =
-    let jobs = call-jobs c.args.setup.now c.requires.can.are.setup c.args.kernel c.requires.can.are.is_one (side_of c.args.self.now) c.requires.can.are.sound c.args.vpe
-    c.args.src false c.revoke_call-outcome.result.1 _ c.revoke_call-outcome.ensures.unmarked
-    (λ some' p at. c.revoke_call-outcome.ensures.opened some' p at (side_of c.args.self.now)) some in
+    let jobs = begun-jobs c.args.setup.now c.args.kernel c.args.vpe c.args.src c.args.self.now c.requires.can false _ _ _ _
+    c.revoke_call-outcome.ensures.begun refl some in
     let spare = c.revoke_call-outcome.ensures.left.spare in
     let room = c.requires.room.outs in
     omega (arith, jobs, spare, room)
 
 pub finish-requires-clause-gone : goal.finish-requires-clause-gone
 finish-requires-clause-gone c some =
-    let caps = call-caps c.args.setup.now c.requires.can.are.setup c.args.kernel c.requires.can.are.is_one (side_of c.args.self.now) c.requires.can.are.sound c.args.vpe
-    c.args.src false c.revoke_call-outcome.result.1 _ c.revoke_call-outcome.ensures.unmarked
-    (λ some' p at. c.revoke_call-outcome.ensures.opened some' p at (side_of c.args.self.now)) some in
+    let caps = begun-caps c.args.setup.now c.args.kernel c.args.vpe c.args.src c.args.self.now c.requires.can false _ _ _ _
+    c.revoke_call-outcome.ensures.begun refl some in
     let gone = c.revoke_call-outcome.ensures.left.gone in
     let room = c.requires.room.gone in
     omega (arith, caps, gone, room)

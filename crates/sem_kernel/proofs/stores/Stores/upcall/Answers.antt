@@ -41,7 +41,8 @@ obtain_upcall-requires-clause-free c waits = place-absent c.args.setup.now c.req
     (side_of c.args.self.now) c.requires.can.are.sound c.in-Some-Obtain.place waits
 
 pub delegate_upcall-requires-clause-declared : goal.delegate_upcall-requires-clause-declared
-delegate_upcall-requires-clause-declared c = declared-here c.args.setup.now c.requires.can.are.setup c.args.kernel c.requires.can.are.is_one c.args.vpe c.requires.can.here
+delegate_upcall-requires-clause-declared c = declared-here c.args.setup.now c.requires.can.are.setup
+    c.args.kernel c.requires.can.are.is_one c.args.vpe c.requires.can.here
 
 pub delegate_upcall-requires-clause-owner : goal.delegate_upcall-requires-clause-owner
 delegate_upcall-requires-clause-owner c =

@@ -27,6 +27,6 @@ returns c =
     let start = started-all c.args.setup.now c.args.kernel c.loop-vpe.vpe c.loop-vpe.places.items c.loop-vpe.invariant.places (omega arith) in
     record {
       start = start;
-      declared = rw start (as_declared c.args.setup.now c.args.kernel (rw (← c.setup.view_is) c.setup.invariant));
+      declared = rw start (as_declared c.args.setup.now c.args.kernel c.keeps_its_rules.ensures);
       table = table_of c.loop-vpe.places.items (omega arith) c.loop-vpe.invariant.rows;
     }

@@ -1,6 +1,6 @@
 use Rattle.sem_kernel.specs.KernelStores.{side_of}
 use Rattle.sem_kernel.proofs.Enabled.{resume-here, resume-can}
-use Rattle.sem_kernel.proofs.stores.Stores.go_on.Goals as goal
+use Rattle.sem_kernel.proofs.stores.Stores.resume_parked.Goals as goal
 
 pub resume-outcome-requires-clause-can : goal.resume-outcome-requires-clause-can
 resume-outcome-requires-clause-can c = record {

@@ -3,7 +3,7 @@ use Rattle.sem_kernel.specs.Worlds.{world_of}
 use Rattle.sem_kernel.proofs.Happened.{enabled-few, can-do, stepped-together, stepped-replied, stepped-after, stepped-journal, stepped-same_journal}
 use Rattle.sem_kernel.proofs.Happened.{stepped-unchanged}
 use Rattle.sem_kernel.proofs.Stands.{stands-after}
-use Rattle.sem_kernel.proofs.happening.advance.Goals as goal
+use Rattle.sem_kernel.proofs.events.advance.Goals as goal
 
 pub index_mut-kernel-requires : goal.index_mut-kernel-requires
 index_mut-kernel-requires c =
@@ -14,7 +14,7 @@ index_mut-kernel-requires c =
 pub step-requires : goal.step-requires
 step-requires c = can-do c.args.setup.now c.args.kernels.now.items c.args.fabric.now c.requires.together c.args.event.kernel
     (enabled-few c.args.setup.now (world_of c.args.kernels.now.items c.args.fabric.now) c.args.event c.requires.enabled) c.index_mut-kernel.result.now
-    c.index_mut-kernel.ensures.value (rw c.setup.view_is at c.setup.invariant) c.args.event.act c.requires.enabled
+    c.index_mut-kernel.ensures.value c.keeps_its_rules.ensures c.args.event.act c.requires.enabled
 
 pub returns-clause-together : goal.returns-clause-together
 returns-clause-together c = stepped-together c.args.setup.now c.args.kernels.now.items c.args.fabric.now c.requires.together c.args.event.kernel

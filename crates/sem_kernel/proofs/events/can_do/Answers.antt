@@ -4,7 +4,7 @@ use Rattle.sem_machine.specs.Machine.{is_locally_enabled}
 use Rattle.sem_kernel.specs.KernelValue.{is_timely}
 use Rattle.sem_kernel.specs.Worlds.{NamesPeer}
 use Rattle.sem_kernel.proofs.Peers.{enabled-peer}
-use Rattle.sem_kernel.proofs.happening.can_do.Goals as goal
+use Rattle.sem_kernel.proofs.events.can_do.Goals as goal
 
 -- an enabled act names another kernel
 pub is_passable-requires-clause-peer : goal.is_passable-requires-clause-peer

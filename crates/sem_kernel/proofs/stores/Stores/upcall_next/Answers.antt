@@ -1,6 +1,6 @@
 use Rattle.sem_kernel.specs.KernelStores.{side_of}
 use Rattle.sem_kernel.proofs.Enabled.{upcall-here, upcall-asked}
-use Rattle.sem_kernel.proofs.stores.Stores.be_asked.Goals as goal
+use Rattle.sem_kernel.proofs.stores.Stores.upcall_next.Goals as goal
 
 pub upcall-outcome-requires-clause-can : goal.upcall-outcome-requires-clause-can
 upcall-outcome-requires-clause-can c = record {

@@ -1,6 +1,6 @@
 use Rattle.std.proofs.Common.{◌∙◌}
 use Rattle.sem_kernel.proofs.Happened.{enabled-here, enabled-nowhere}
-use Rattle.sem_kernel.proofs.happening.is_enabled.Goals as goal
+use Rattle.sem_kernel.proofs.events.is_enabled.Goals as goal
 
 pub returns-then-event-setup : goal.returns-then-event-setup
 returns-then-event-setup c = c.can_do.ensures

@@ -2,7 +2,7 @@ use Rattle.std.proofs.Common.{sym, subst}
 use Rattle.sem_kernel.specs.Worlds.{NamesPeer}
 use Rattle.sem_kernel.proofs.Peers.{able-peer}
 use Rattle.sem_kernel.proofs.Doing.{made-few, made-place, all-done}
-use Rattle.sem_kernel.proofs.happening.try_step.Goals as goal
+use Rattle.sem_kernel.proofs.events.try_step.Goals as goal
 
 pub is_passable-requires-clause-peer : goal.is_passable-requires-clause-peer
 is_passable-requires-clause-peer c = subst (λ i. NamesPeer c.args.fabric.now.kernels i c.args.act) (sym c.id.ensures)

@@ -28,7 +28,7 @@ pub enum StepError {
 }
 
 impl From<OutOfMemory> for StepError {
-    ghost use Rattle.sem_kernel.specs.declared.happening.StepError.TheVariants.{Memory};
+    ghost use Rattle.sem_kernel.specs.declared.events.StepError.TheVariants.{Memory};
 
     ghost from_gives = { λ _ e. e ≡ Memory };
 
@@ -49,7 +49,7 @@ pub fn is_enabled(setup: &Setup, kernels: &[Kernel], fabric: &Fabric, event: Eve
 /// Does the event, if it is enabled, on kernels and their fabric, and returns its entry, which is
 /// then in the journal. An event that is not enabled is refused. After a refusal, or if memory is
 /// refused, the world is as before.
-pub fn happen(
+pub fn do_event(
     setup: &Setup,
     kernels: &mut Vec<Kernel>,
     fabric: &mut Fabric,
@@ -68,18 +68,17 @@ pub fn happen(
         ≡ world_of kernels.old.items fabric.old) }
     ensures same_journal { OnErr result (fabric.new.journal ≡ fabric.old.journal) }
 {
-    // Shows the proof what a setup keeps.
-    let _ = &setup.vpes;
+    setup.keeps_its_rules();
     if !is_enabled(setup, kernels.as_slice(), fabric, event) {
         return Err(StepError::NotEnabled);
     }
-    Ok(happen_enabled(setup, kernels, fabric, event)?)
+    Ok(do_enabled_event(setup, kernels, fabric, event)?)
 }
 
 /// Does the event, an enabled one, on kernels and their fabric, and returns its entry, which is
 /// then in the journal. If memory is refused, the world is as before. In both cases, kernels and a
 /// fabric that stand at a schedule still stand at one.
-pub fn happen_enabled(
+pub fn do_enabled_event(
     setup: &Setup,
     kernels: &mut Vec<Kernel>,
     fabric: &mut Fabric,
@@ -106,7 +105,7 @@ pub fn happen_enabled(
     Ok(entries[entries.len() - 1])
 }
 
-/// Does the event as `happen_enabled`, and tells only whether its entry has a reply.
+/// Does the event as `do_enabled_event`, and tells only whether its entry has a reply.
 pub fn advance(
     setup: &Setup,
     kernels: &mut Vec<Kernel>,
@@ -129,8 +128,7 @@ pub fn advance(
     ensures stands { StandsAt setup.now kernels.old.items fabric.old
         → StandsAt setup.now kernels.new.items fabric.new }
 {
-    // Shows the proof what a setup keeps.
-    let _ = &setup.vpes;
+    setup.keeps_its_rules();
     let kernel = &mut kernels[event.kernel as usize];
     step(kernel, fabric, event.act)
 }
