@@ -11,7 +11,7 @@ use Rattle.sem_key.specs.Region.{has_key}
 use Rattle.sem_key.proofs.KeyTests.{key_eq-same, key_eq-true}
 use Rattle.sem_msg.specs.declared.entry.Entry.{Entry}
 use Rattle.sem_msg.specs.Setup.{Setup, IsSetup}
-use Rattle.sem_machine.specs.Journals.{line_in, grants, root_keys, made, cut, forest, descends_from_any}
+use Rattle.sem_machine.specs.Journals.{ancestry_in, grants, root_keys, made, cut, forest, descends_from_any}
 use Rattle.sem_machine.specs.Schedules.{IsSchedule}
 use Rattle.indexmap.specs.IndexSet.{IndexSet}
 use Rattle.std.specs.Option.{IfSome, option_to_list}
@@ -78,8 +78,8 @@ module _ (p : KeyName → Bool) (roots : List KeyName) where
 
   -- a made key is lost if one of its line was cut off
   pub lost-line : (gs : List (KeyName × KeyName)) → IsGrown roots gs → (n : ℕ) → length gs ≤ n → (k : KeyName) → Contains (grown roots gs) k →
-      list_any p (line_in n gs k) ≡ lost p gs k
-  unfolding lost line_in
+      list_any p (ancestry_in n gs k) ≡ lost p gs k
+  unfolding lost ancestry_in
   lost-line _ no_grants zero few k made = or_false (p k)
   lost-line _ no_grants (suc n) few k made = or_false (p k)
   lost-line _ (granted_next gs a c is has fresh) zero few k made = absurd (omega (arith, few, length-append gs ((a, c) ∷ [])))
@@ -89,7 +89,7 @@ module _ (p : KeyName → Bool) (roots : List KeyName) where
         | inl old ↦ let other : key_eq k c ≡ false =
             false_from_ne_true (key_eq k c) (λ same. fresh (subst (Contains (grown roots gs)) (key_eq-true k c same) old)) in
             ap (list_any p) (line-stays roots gs is a c fresh (suc n) k old) ∙ (lost-line gs is (suc n) (omega arith) k old ∙ sym (lost-other gs a c k other))
-        | inr same ↦ subst (λ (q : KeyName). list_any p (line_in (suc n) (gs ++ (a, c) ∷ []) q) ≡ lost p (gs ++ (a, c) ∷ []) q) same
+        | inr same ↦ subst (λ (q : KeyName). list_any p (ancestry_in (suc n) (gs ++ (a, c) ∷ []) q) ≡ lost p (gs ++ (a, c) ∷ []) q) same
             (ap (list_any p) (line-new roots gs is a c fresh n has)
             ∙ (ap (λ (b : Bool). p c || b) (lost-line gs is n room a has)
             ∙ (ap (λ (b : Bool). b || lost p gs a) (sym (lost-unmade gs is c fresh))
@@ -162,4 +162,4 @@ module _ {S : Type 0} (words : IndexSet ℕ S) where
       here k among =
           has k (made-valid T valid J runs k among)
           ∙ (sym (lost-line (has_key cuts) (root_keys T) (grants J) (all-grown T valid J runs) (length J) (few-grants J) k among)
-          ∙ ap (λ (ks : List KeyName). list_any (has_key ks) (line_in (length J) (grants J) k)) same)
+          ∙ ap (λ (ks : List KeyName). list_any (has_key ks) (ancestry_in (length J) (grants J) k)) same)

@@ -22,7 +22,7 @@ use Rattle.sem_msg.specs.Audits.{held_pairs}
 use Rattle.sem_machine.specs.Sides.{Side}
 use Rattle.sem_kernel.specs.KernelValue.{KernelValue}
 use Rattle.sem_mark.proofs.SortedKeys.{AllPairs-append}
-use Rattle.sem_audit.specs.HeldKeys.{keys_held}
+use Rattle.sem_machine.specs.HeldKeys.{keys_held}
 use Rattle.sem_audit.specs.Holding.{holding, IsInOrder, KeepsTies}
 
 -- no key comes before one that stands earlier

@@ -21,7 +21,7 @@ use Rattle.sem_machine.specs.Living.{IsHeld, IsComplete}
 use Rattle.sem_sound.proofs.Holding.{with_cap-has, with_cap-keeps, with_cap-from}
 use Rattle.sem_revoke.proofs.IdleForest.{forest-held}
 use Rattle.sem_revoke.proofs.Quieting.{quiet-idle}
-use Rattle.sem_audit.specs.HeldKeys.{all_caps, keys_held}
+use Rattle.sem_machine.specs.HeldKeys.{all_caps, keys_held}
 use Rattle.sem_audit.specs.Straying.{missing, held_keys, stray_count}
 
 -- keys that are all among the others

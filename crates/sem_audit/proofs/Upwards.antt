@@ -13,7 +13,7 @@ use Rattle.sem_msg.specs.declared.entry.Entry.{Entry}
 use Rattle.sem_msg.specs.declared.entry.Reply.{Reply}
 use Rattle.sem_msg.specs.Audits.{held_pairs}
 use Rattle.sem_msg.specs.Journal.{replies}
-use Rattle.sem_machine.specs.Journals.{grants, line_in, parent_in}
+use Rattle.sem_machine.specs.Journals.{grants, ancestry_in, parent_in}
 
 module _ {X : Type 0} (p : X → Bool) where
   any-here : (x : X) (xs : List X) → p x ≡ true → list_any p (x ∷ xs) ≡ true
@@ -25,31 +25,31 @@ module _ {X : Type 0} (p : X → Bool) where
 -- A line that is followed: n more keys above k may be looked at.
 module _ (gs : List (KeyName × KeyName)) (p : KeyName → Bool) where
   -- the key itself passes
-  pub line-here : (n : ℕ) (k : KeyName) → p k ≡ true → list_any p (line_in n gs k) ≡ true
-  unfolding line_in
+  pub line-here : (n : ℕ) (k : KeyName) → p k ≡ true → list_any p (ancestry_in n gs k) ≡ true
+  unfolding ancestry_in
   line-here zero k yes' = any-here p k [] yes'
-  line-here (suc n) k yes' = any-here p k (option_map_or (line_in n gs) (parent_in gs k) []) yes'
+  line-here (suc n) k yes' = any-here p k (option_map_or (ancestry_in n gs) (parent_in gs k) []) yes'
 
   -- it does not, and nothing is above it
-  pub line-ends : (n : ℕ) (k : KeyName) → p k ≡ false → parent_in gs k ≡ None → list_any p (line_in n gs k) ≡ false
-  unfolding line_in
+  pub line-ends : (n : ℕ) (k : KeyName) → p k ≡ false → parent_in gs k ≡ None → list_any p (ancestry_in n gs k) ≡ false
+  unfolding ancestry_in
   line-ends zero k no' none = any-later p k [] no'
-  line-ends (suc n) k no' none = any-later p k (option_map_or (line_in n gs) (parent_in gs k) []) no'
-      ∙ ap (λ o. list_any p (option_map_or (line_in n gs) o [])) none
+  line-ends (suc n) k no' none = any-later p k (option_map_or (ancestry_in n gs) (parent_in gs k) []) no'
+      ∙ ap (λ o. list_any p (option_map_or (ancestry_in n gs) o [])) none
 
   -- it does not, and its parent is next
   pub line-next : (n m : ℕ) (k parent : KeyName) → n ≡ suc m → p k ≡ false → parent_in gs k ≡ Some parent →
-      list_any p (line_in n gs k) ≡ list_any p (line_in m gs parent)
-  unfolding line_in
+      list_any p (ancestry_in n gs k) ≡ list_any p (ancestry_in m gs parent)
+  unfolding ancestry_in
   line-next zero m k parent is no' some = absurd (omega arith)
   line-next (suc n) m k parent is no' some =
       let same : n ≡ m = omega arith in
-      any-later p k (option_map_or (line_in n gs) (parent_in gs k) []) no'
-      ∙ (ap (λ o. list_any p (option_map_or (line_in n gs) o [])) some ∙ ap (λ x. list_any p (line_in x gs parent)) same)
+      any-later p k (option_map_or (ancestry_in n gs) (parent_in gs k) []) no'
+      ∙ (ap (λ o. list_any p (option_map_or (ancestry_in n gs) o [])) some ∙ ap (λ x. list_any p (ancestry_in x gs parent)) same)
 
   -- nothing more may be looked at
-  pub line-last : (n : ℕ) (k : KeyName) → n ≡ 0 → list_any p (line_in n gs k) ≡ p k
-  unfolding line_in
+  pub line-last : (n : ℕ) (k : KeyName) → n ≡ 0 → list_any p (ancestry_in n gs k) ≡ p k
+  unfolding ancestry_in
   line-last zero k is = alone (p k) refl
     where
       alone : (b : Bool) → p k ≡ b → list_any p (k ∷ []) ≡ b

@@ -1,4 +1,4 @@
-pub mod HeldKeys
+pub mod Reported
 pub mod Holding
 pub mod Straying
 pub mod Losing

@@ -2,7 +2,7 @@
 -- docs/machine.md).
 use Rattle.std.specs.Prelude.{ℕ, ◌+◌, not, List, length, map, filter}
 use Rattle.sem_machine.specs.Prelude.{KeyName, has_key, Entry, Setup, Side, forest, world_after}
-use Rattle.sem_audit.specs.HeldKeys.{keys_held}
+use Rattle.sem_machine.specs.HeldKeys.{keys_held}
 
 -- how many of the keys are not among the others
 abbrev pub missing : List KeyName → List KeyName → ℕ

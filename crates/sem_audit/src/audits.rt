@@ -1,7 +1,7 @@
 ghost use Rattle.std.specs.Prelude.{◌≡◌, length, map, IfOk};
 ghost use Rattle.sem_msg.specs.Audits.{held_pairs};
 ghost use Rattle.sem_machine.specs.Journals.{made as made_spec, cut};
-ghost use Rattle.sem_audit.specs.HeldKeys.{keys_held};
+ghost use Rattle.sem_machine.specs.HeldKeys.{keys_held};
 
 use crate::holds::held_list;
 use sem_grants::{cut_among, made_keys};

@@ -1,7 +1,7 @@
 ghost use Rattle.std.specs.Prelude.{◌≡◌, ◌++◌, flat_map, map, reverse, slice_get, IfOk, OnOk};
 ghost use Rattle.std.specs.Option.{option_to_list};
 ghost use Rattle.sem_msg.specs.Audits.{held_pairs};
-ghost use Rattle.sem_audit.specs.HeldKeys.{keys_held};
+ghost use Rattle.sem_machine.specs.HeldKeys.{keys_held};
 ghost use Rattle.sem_audit.specs.Holding.{IsInOrder, KeepsTies, holding};
 
 use sem_kernel::Kernel;

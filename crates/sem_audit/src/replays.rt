@@ -1,6 +1,6 @@
 ghost use Rattle.std.specs.Prelude.{◌≡◌, IfOk};
 ghost use Rattle.sem_machine.specs.Schedules.{IsSchedule, world_after};
-ghost use Rattle.sem_audit.specs.HeldKeys.{IsAuditOf};
+ghost use Rattle.sem_audit.specs.Reported.{IsAuditOf};
 
 use crate::audits::audit_of;
 use sem_kernel::World;

@@ -14,7 +14,7 @@ use Rattle.sem_msg.specs.declared.entry.Entry.{Entry}
 use Rattle.sem_msg.specs.Setup.{Setup, IsSetup}
 use Rattle.sem_machine.specs.Machine.{World, side, start}
 use Rattle.sem_machine.specs.Schedules.{IsSchedule, world_after}
-use Rattle.sem_machine.specs.Journals.{grants, root_keys, line_in}
+use Rattle.sem_machine.specs.Journals.{grants, root_keys, ancestry_in}
 use Rattle.sem_machine.specs.Living.{HoldsCap, IsLive, as_held}
 use Rattle.sem_machine.specs.Safety.{IsInUse, IsLineage, IsSafe, IsNarrowed, IsSoundBinding, narrowing}
 use Rattle.sem_safety.proofs.GoingOn.{entry-enabled}
@@ -105,9 +105,9 @@ module _ (T : Setup) (before : List Entry) (narrow : narrowing T before) (x : Ac
     | inr rest ↦ lineage-lies roots p ks is.1 (parent-lies p k is.0 lies) a rest
   ]
 
-  line-lies : (roots : List KeyName) (n : ℕ) (k : KeyName) → IsLineage roots (grants before) (line_in n (grants before) k) → LiesInHeld W x k → (a : KeyName) →
-      Contains (line_in n (grants before) k) a → LiesInHeld W x a
-  unfolding line_in
+  line-lies : (roots : List KeyName) (n : ℕ) (k : KeyName) → IsLineage roots (grants before) (ancestry_in n (grants before) k) → LiesInHeld W x k → (a : KeyName) →
+      Contains (ancestry_in n (grants before) k) a → LiesInHeld W x a
+  unfolding ancestry_in
   line-lies roots zero k is lies a among = lineage-lies roots k [] is lies a among
   line-lies roots (suc n) k is lies a among = lineage-lies roots k _ is lies a among
 

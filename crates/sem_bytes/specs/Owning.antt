@@ -2,7 +2,7 @@
 -- docs/promises.md).
 use Rattle.std.specs.Prelude.{◌≡◌, ℕ, true, List, Contains, take, if◌then◌else◌}
 use Rattle.sem_machine.specs.Prelude.{Object, Mem, KeyName, Capability, Entry, Setup, World, world_after, grants}
-use Rattle.sem_machine.specs.Prelude.{root_keys, line, answered, HoldsCap}
+use Rattle.sem_machine.specs.Prelude.{root_keys, ancestry, answered, HoldsCap}
 use Rattle.sem_key.specs.ObjectRanges.{range_within, is_subset}
 use Rattle.sem_machine.specs.Safety.{HoldsUnmarked, IsLineage}
 use Rattle.sem_access.specs.declared.access.Access.{Access}
@@ -31,13 +31,13 @@ pub record IsOwned (T : Setup) (before : List Entry) (x : Access) : Type 0 where
   pub own : x.key.vpe ≡ x.vpe
   pub held : (i : ℕ) × HoldsUnmarked (world_after T before) i x.key
   -- the key's line leads down to a root by grants
-  pub lineage : IsLineage (root_keys T) (grants before) (line before x.key)
+  pub lineage : IsLineage (root_keys T) (grants before) (ancestry before x.key)
   -- the access lies in the memory of each key of the line
   pub within : (k : KeyName)
-      → Contains (line before x.key) k → LiesInHeld (world_after T before) x k
+      → Contains (ancestry before x.key) k → LiesInHeld (world_after T before) x k
   -- no call with an answer cut off any of them
   pub unrevoked : (k : KeyName)
-      → Contains (line before x.key) k → Contains (answered before) k → ⊥
+      → Contains (ancestry before x.key) k → Contains (answered before) k → ⊥
 
 -- every access of a journal owns what it reads or writes
 abbrev pub AccessesAreOwned : Setup → List Entry → Type 0

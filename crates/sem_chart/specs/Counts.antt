@@ -31,9 +31,9 @@ message_number (RevokeDone job) = 10
 message_number (Unlink parent key) = 11
 
 -- the message that a flush gives to a link
-abbrev pub flushed : Act → Detail → Option Message
-flushed (Flush to) (Carried peer message) = Some message
-flushed act detail = None
+abbrev pub flushed_message : Act → Detail → Option Message
+flushed_message (Flush to) (Carried peer message) = Some message
+flushed_message act detail = None
 
 -- the kernel that a flush sends a message to
 abbrev pub sent_to : Act → Option ℕ
@@ -46,7 +46,7 @@ is_event n e = number_of_act e.event.act == n
 
 -- whether an entry sends a message of that number
 abbrev pub sends : ℕ → Entry → Bool
-sends n e = option_map_or (λ m. message_number m == n) (flushed e.event.act e.detail) false
+sends n e = option_map_or (λ m. message_number m == n) (flushed_message e.event.act e.detail) false
 
 -- whether an entry sends a message from kernel i to kernel j
 abbrev pub sends_between : ℕ → ℕ → Entry → Bool

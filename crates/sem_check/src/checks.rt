@@ -46,8 +46,7 @@ pub fn check_watched<W: Watch>(
     ensures few { OnOk result
         (length journal.now.entries ≤ 21 * call_count setup.now + kill_count setup.now) }
 {
-    // Shows the proof what a setup keeps.
-    let _ = &setup.vpes;
+    setup.keeps_its_rules();
     let mut world = World::boot(alloc, setup)?;
     let entries = journal.as_slice();
     match follow(setup, &mut world, entries, watch)? {
@@ -82,8 +81,7 @@ fn judge(
         → ¬ IsErrOf result (CheckError.Differs n entered replayed) }
     ensures incomplete { TellsNext setup.now entries.now result }
 {
-    // Shows the proof what a setup keeps.
-    let _ = &setup.vpes;
+    setup.keeps_its_rules();
     match next_entry(alloc, &mut world) {
         Ok(None) => Ok(world),
         Ok(Some(next)) => Err(CheckError::Incomplete {

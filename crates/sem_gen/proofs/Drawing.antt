@@ -8,7 +8,8 @@ use Rattle.sem_msg.specs.declared.call.Call.{Call}
 use Rattle.sem_msg.specs.declared.setup.Root.{Root}
 use Rattle.sem_msg.specs.declared.setup.VpeDecl.{VpeDecl}
 use Rattle.sem_gen.specs.Drawn.{drawn_calls}
-use Rattle.sem_gen.specs.Generated.{word_at, generator_of, call_of, generated_roots, vpe_of}
+use Rattle.sem_gen.specs.Generated.{drawn_word, call_of, generated_roots, vpe_of}
+use Rattle.sem_pick.specs.Seeds.{generator_of}
 
 -- j steps and then k
 state-add : (w m i j k s : ℕ) → state_after w m i k (state_after w m i j s) ≡ state_after w m i (j + k) s
@@ -28,12 +29,12 @@ pub advance-one : (g h h' : Lcg) (n : ℕ) → h ≡ advance 64 multiplier_64 n 
 unfolding state_after
 advance-one g h h' n at stepped = stepped ∙ (ap (next 64 multiplier_64) at ∙ advance-add g n 1)
 
-pub word-here : (g h : Lcg) (n : ℕ) → h ≡ advance 64 multiplier_64 n g → (pcg32 h).0 ≡ word_at g n
-unfolding word_at
+pub word-here : (g h : Lcg) (n : ℕ) → h ≡ advance 64 multiplier_64 n g → (pcg32 h).0 ≡ drawn_word g n
+unfolding drawn_word
 word-here g h n at = ap (λ (x : Lcg). (pcg32 x).0) at
 
-word-later : (g : Lcg) (j m : ℕ) → word_at (advance 64 multiplier_64 j g) m ≡ word_at g (j + m)
-unfolding word_at
+word-later : (g : Lcg) (j m : ℕ) → drawn_word (advance 64 multiplier_64 j g) m ≡ drawn_word g (j + m)
+unfolding drawn_word
 word-later g j m = ap (λ (x : Lcg). (pcg32 x).0) (advance-add g j m)
 
 -- the calls of the words from word j on
@@ -50,10 +51,10 @@ drawn-there g h vpes j n at =
     ap (λ (x : Lcg). drawn_calls x vpes 0 n) at ∙ (drawn-later g vpes j 0 n ∙ ap (λ i. drawn_calls g vpes i n) e)
 
 pub drawn-more : (g : Lcg) (vpes n x : ℕ) (list list' : List Call) (c : Call) → list ≡ drawn_calls g vpes 0 n → list' ≡ list ++ c ∷ [] → c ≡ call_of vpes x →
-    x ≡ word_at g n → list' ≡ drawn_calls g vpes 0 (n + 1)
+    x ≡ drawn_word g n → list' ≡ drawn_calls g vpes 0 (n + 1)
 drawn-more g vpes n x list list' c so_far pushed is word =
     let e : 0 + n ≡ n = omega arith in
-    pushed ∙ (rw (so_far, is, word) (sym (map-range_with_len_more (λ m. call_of vpes (word_at g m)) 0 n n e)))
+    pushed ∙ (rw (so_far, is, word) (sym (map-range_with_len_more (λ m. call_of vpes (drawn_word g m)) 0 n n e)))
 
 -- the words of one more VPE
 pub words-more : (g h h' : Lcg) (v calls : ℕ) → h ≡ advance 64 multiplier_64 (v * calls) g → h' ≡ advance 64 multiplier_64 calls h →

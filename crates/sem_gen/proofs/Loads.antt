@@ -1,5 +1,5 @@
 -- In a generated setup no VPE is killed and none calls `exit`, and each has as many calls as were asked for.
-use Rattle.std.proofs.Common.{◌≡◌, ◌≢◌, ℕ, ◌+◌, ◌*◌, ◌/◌, ◌%◌, ◌==◌, cond, List, [], map, refl}
+use Rattle.std.proofs.Common.{◌≡◌, ◌≢◌, ℕ, ◌+◌, ◌*◌, ◌/◌, ◌%◌, ◌==◌, cond, [], map, refl}
 use Rattle.std.specs.List.{All, Contains, range_with_len}
 use Rattle.std.proofs.lemmas.List.Elements.{All-contains}
 use Rattle.sem_key.specs.declared.limits.TheConstants.{RIGHTS}
@@ -7,7 +7,8 @@ use Rattle.sem_msg.specs.declared.call.Call.{Call}
 use Rattle.sem_msg.specs.declared.call.Call.TheVariants.{Derive, Obtain, Delegate, Revoke, Exit}
 use Rattle.sem_msg.specs.declared.setup.VpeDecl.{VpeDecl}
 use Rattle.sem_msg.specs.Setup.{call_count}
-use Rattle.sem_gen.specs.Generated.{word_at, generator_of, target_of, source_of, peer_of, call_of, vpe_of, generated}
+use Rattle.sem_gen.specs.Generated.{drawn_word, target_of, source_of, peer_of, call_of, vpe_of, generated}
+use Rattle.sem_pick.specs.Seeds.{generator_of}
 use Rattle.sem_gen.proofs.Sound.{chosen, all-mapped, call-total}
 
 pub none-killed : (seed vpes calls : ℕ) → (generated seed vpes calls).kills ≡ []
@@ -30,8 +31,8 @@ unfolding generated
 none-exits seed vpes calls d among exits =
     let stays : All (λ (d : VpeDecl). All (λ (c : Call). c ≢ Exit) d.calls) (map (vpe_of seed vpes calls) (range_with_len 0 vpes)) =
     all-mapped (λ (d : VpeDecl). All (λ (c : Call). c ≢ Exit) d.calls) (vpe_of seed vpes calls) 0 vpes
-    (λ v inside. all-mapped (λ (c : Call). c ≢ Exit) (λ m. call_of vpes (word_at (generator_of seed) m)) ((0 + v) * calls) calls
-    (λ m within. call-stays vpes (word_at (generator_of seed) ((0 + v) * calls + m)))) in
+    (λ v inside. all-mapped (λ (c : Call). c ≢ Exit) (λ m. call_of vpes (drawn_word (generator_of seed) m)) ((0 + v) * calls) calls
+    (λ m within. call-stays vpes (drawn_word (generator_of seed) ((0 + v) * calls + m)))) in
     All-contains (λ (c : Call). c ≢ Exit) d.calls Exit
     (All-contains (λ (d : VpeDecl). All (λ (c : Call). c ≢ Exit) d.calls) (map (vpe_of seed vpes calls) (range_with_len 0 vpes)) d stays among) exits refl
 

@@ -26,8 +26,9 @@ use Rattle.sem_msg.specs.declared.setup.VpeDecl.{VpeDecl}
 use Rattle.sem_msg.specs.Versions.{most_vpes, most_kernels, IsWindow}
 use Rattle.sem_msg.specs.Calls.{IsValidCall}
 use Rattle.sem_msg.specs.Setup.{Setup, IsSetup, IsVpeDecl, IsRoot, IsOffer, services_from}
-use Rattle.sem_gen.specs.Generated.{word_at, generator_of, target_of, source_of, peer_of, call_of, generated_roots, vpe_of, pe_owner_of, owners_of, kernels_of}
-use Rattle.sem_gen.specs.Generated.{version_of, generated}
+use Rattle.sem_gen.specs.Generated.{drawn_word, target_of, source_of, peer_of, call_of, generated_roots, vpe_of, pe_owner_of, owners_of, kernels_for}
+use Rattle.sem_pick.specs.Seeds.{generator_of}
+use Rattle.sem_gen.specs.Generated.{version_for, generated}
 
 -- a word has 32 bits
 output-small : (s : ℕ) → output_xsh_rr s < 2 ^ 32
@@ -36,8 +37,8 @@ output-small s =
     let high : n / 2 ^ (s / 2 ^ 59 % 32) < 2 ^ 32 = omega (arith, div-le_self n (2 ^ (s / 2 ^ 59 % 32))) in
     or_lt 32 (n / 2 ^ (s / 2 ^ 59 % 32)) ((n * 2 ^ ((32 - s / 2 ^ 59 % 32) % 32)) % 2 ^ 32) high (omega arith)
 
-word-small : (g : Lcg) (m : ℕ) → word_at g m < 2 ^ 32
-unfolding word_at
+word-small : (g : Lcg) (m : ℕ) → drawn_word g m < 2 ^ 32
+unfolding drawn_word
 word-small g m = output-small (advance 64 multiplier_64 m g).state
 
 pub chosen : {X : Type 0} (P : X → Type 0) (b : Bool) (x y : X) → P x → P y → P (cond b x y)
@@ -74,8 +75,8 @@ pairs-mapped R f n each i j d less within =
     rw (first, second) (each i j less inside)
 
 -- the version has room for so many VPEs and kernels
-room : (vpes : ℕ) → vpes ≤ 128 → (vpes ≤ most_vpes (version_of vpes)) × (kernels_of vpes ≤ most_kernels (version_of vpes)) × IsWindow (version_of vpes) 4
-    × ((version_of vpes ≡ 1) ⊎ (version_of vpes ≡ 2))
+room : (vpes : ℕ) → vpes ≤ 128 → (vpes ≤ most_vpes (version_for vpes)) × (kernels_for vpes ≤ most_kernels (version_for vpes)) × IsWindow (version_for vpes) 4
+    × ((version_for vpes ≡ 1) ⊎ (version_for vpes ≡ 2))
 room vpes few =
     elim (cases_lt 64 vpes) [
       | inl many ↦ rw (lt-ltb 64 vpes many) (few, (omega arith), ((omega arith), (omega arith)), inr refl)
@@ -84,19 +85,19 @@ room vpes few =
 
 -- who owns a PE
 abbrev table : ℕ → MembershipTable
-table vpes = record { kernels = kernels_of vpes; owners = owners_of (kernels_of vpes) vpes }
+table vpes = record { kernels = kernels_for vpes; owners = owners_of (kernels_for vpes) vpes }
 
-owner-in : (vpes p : ℕ) → p < PES → owner_at (table vpes) p ≡ pe_owner_of (kernels_of vpes) vpes p
+owner-in : (vpes p : ℕ) → p < PES → owner_at (table vpes) p ≡ pe_owner_of (kernels_for vpes) vpes p
 unfolding owners_of
-owner-in vpes p small = get_or-map-range_with_len (pe_owner_of (kernels_of vpes) vpes) 0 PES p p None small (zero-add p)
+owner-in vpes p small = get_or-map-range_with_len (pe_owner_of (kernels_for vpes) vpes) 0 PES p p None small (zero-add p)
 
 owner-past : (vpes p : ℕ) → PES ≤ p → owner_at (table vpes) p ≡ None
 unfolding owners_of
 owner-past vpes p past =
-    get_or_past (map (pe_owner_of (kernels_of vpes) vpes) (range_with_len 0 PES)) p None
-    (omega (arith, length-map-range_with_len (pe_owner_of (kernels_of vpes) vpes) 0 PES))
+    get_or_past (map (pe_owner_of (kernels_for vpes) vpes) (range_with_len 0 PES)) p None
+    (omega (arith, length-map-range_with_len (pe_owner_of (kernels_for vpes) vpes) 0 PES))
 
-owned : (vpes p : ℕ) → vpes ≤ 128 → p < vpes → owner_at (table vpes) p ≡ Some (p % kernels_of vpes)
+owned : (vpes p : ℕ) → vpes ≤ 128 → p < vpes → owner_at (table vpes) p ≡ Some (p % kernels_for vpes)
 owned vpes p few below = owner-in vpes p (omega arith) ∙ (rw (lt-ltb p vpes below) refl)
 
 unowned : (vpes p : ℕ) → vpes ≤ p → owner_at (table vpes) p ≡ None
@@ -111,10 +112,10 @@ unfolding owners_of
 owners-are vpes some few = record {
   some_kernel = omega arith;
   few_kernels = omega arith;
-  all_pes = length-map-range_with_len (pe_owner_of (kernels_of vpes) vpes) 0 PES;
+  all_pes = length-map-range_with_len (pe_owner_of (kernels_for vpes) vpes) 0 PES;
   owners_exist = λ p kernel owner. elim (cases_lt p vpes) [
     | inl below ↦
-        let is : p % kernels_of vpes ≡ kernel = same_Some (p % kernels_of vpes) kernel (sym (owned vpes p few below) ∙ owner) in
+        let is : p % kernels_for vpes ≡ kernel = same_Some (p % kernels_for vpes) kernel (sym (owned vpes p few below) ∙ owner) in
         omega arith
     | inr past ↦ absurd (none-some kernel (sym (unowned vpes p past) ∙ owner))
   ];
@@ -134,7 +135,7 @@ root-is v small =
     All-cons IsRoot root [] (record { selector = omega arith; kind = tt; ranges = ((omega arith), (omega arith), (omega arith), (omega arith)) })
     (All-nil IsRoot)
 
-vpe-is : (seed vpes calls v : ℕ) (T : Setup) → 1 ≤ vpes → vpes ≤ 128 → v < vpes → T.version ≡ version_of vpes → T.owners ≡ table vpes →
+vpe-is : (seed vpes calls v : ℕ) (T : Setup) → 1 ≤ vpes → vpes ≤ 128 → v < vpes → T.version ≡ version_for vpes → T.owners ≡ table vpes →
     IsVpeDecl T (vpe_of seed vpes calls v)
 vpe-is seed vpes calls v T some few below versioned owners =
     let most : vpes ≤ most_vpes T.version = rw versioned (room vpes few).0 in
@@ -144,8 +145,8 @@ vpe-is seed vpes calls v T some few below versioned owners =
       owned = rw (owners, owned vpes v few below) refl;
       selectors_differ = λ i j d less within. absurd (omega arith);
       roots = root-is v (omega arith);
-      calls = all-mapped (IsValidCall (most_vpes T.version)) (λ m. call_of vpes (word_at (generator_of seed) m)) (v * calls) calls
-          (λ i inside. call-valid vpes (most_vpes T.version) (word_at (generator_of seed) (v * calls + i)) some most
+      calls = all-mapped (IsValidCall (most_vpes T.version)) (λ m. call_of vpes (drawn_word (generator_of seed) m)) (v * calls) calls
+          (λ i inside. call-valid vpes (most_vpes T.version) (drawn_word (generator_of seed) (v * calls + i)) some most
           (word-small (generator_of seed) (v * calls + i)));
     }
 
@@ -161,7 +162,7 @@ call-total seed vpes calls a zero = omega arith
 call-total seed vpes calls a (suc n) =
     let d : VpeDecl = vpe_of seed vpes calls a in
     let rest : List VpeDecl = map (vpe_of seed vpes calls) (range_with_len (a + 1) n) in
-    let long : length d.calls ≡ calls = length-map-range_with_len (λ m. call_of vpes (word_at (generator_of seed) m)) (a * calls) calls in
+    let long : length d.calls ≡ calls = length-map-range_with_len (λ m. call_of vpes (drawn_word (generator_of seed) m)) (a * calls) calls in
     let total = call-total seed vpes calls (a + 1) n in
     sum_by-cons (λ (d : VpeDecl). length d.calls) d rest ∙ omega (arith, long, total)
 
@@ -201,7 +202,7 @@ setup-is seed vpes calls some few few_calls =
 
 -- it has these parts
 pub generated-is : (seed vpes calls version kernels : ℕ) (owners : MembershipTable) (declared : List VpeDecl) (services : List Service) (offers : List Offer)
-    (denies kills : List (ℕ × ℕ)) → version ≡ version_of vpes → kernels ≡ kernels_of vpes →
+    (denies kills : List (ℕ × ℕ)) → version ≡ version_for vpes → kernels ≡ kernels_for vpes →
     owners ≡ record { kernels = kernels; owners = owners_of kernels vpes } → declared ≡ map (vpe_of seed vpes calls) (range_with_len 0 vpes) → services ≡ [] →
     offers ≡ [] → denies ≡ [] → kills ≡ [] → record {
       version = version;

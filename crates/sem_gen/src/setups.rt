@@ -3,7 +3,7 @@ ghost use Rattle.std.specs.Prelude.{◌≡◌, ◌+◌, ◌*◌, ◌/◌, ◌<�
 ghost use Rattle.std.specs.List.{range_with_len};
 ghost use Rattle.sem_key.specs.declared.limits.TheConstants.{KERNELS};
 ghost use Rattle.sem_gen.specs.Generated.{generated, owners_of as owners_spec};
-ghost use Rattle.sem_gen.specs.Generated.{generated_roots as roots_spec, version_of as version_spec};
+ghost use Rattle.sem_gen.specs.Generated.{generated_roots as roots_spec, version_for as version_spec};
 ghost use Rattle.sem_gen.specs.Generated.{vpe_of as vpe_spec};
 
 use crate::calls::draw_calls;

@@ -40,17 +40,17 @@ abbrev pub parent_in : List (KeyName × KeyName) → KeyName → Option KeyName
 parent_in gs k = option_map (λ g. g.0) (find (λ g. key_eq g.1 k) gs)
 
 -- a key and the parents above it, at most n of them
-unfoldable pub line_in : ℕ → List (KeyName × KeyName) → KeyName → List KeyName
-line_in zero gs k = k ∷ []
-line_in (suc n) gs k = k ∷ option_map_or (line_in n gs) (parent_in gs k) []
+unfoldable pub ancestry_in : ℕ → List (KeyName × KeyName) → KeyName → List KeyName
+ancestry_in zero gs k = k ∷ []
+ancestry_in (suc n) gs k = k ∷ option_map_or (ancestry_in n gs) (parent_in gs k) []
 
--- the line of a key: the key, its parent, the parent's parent, and so on
-abbrev pub line : List Entry → KeyName → List KeyName
-line J k = line_in (length J) (grants J) k
+-- the ancestry of a key: the key, its parent, the parent's parent, and so on
+abbrev pub ancestry : List Entry → KeyName → List KeyName
+ancestry J k = ancestry_in (length J) (grants J) k
 
--- b descends from a: a is in the line of b
+-- b descends from a: a is in the ancestry of b
 abbrev pub Descends : List Entry → KeyName → KeyName → Type 0
-Descends J a b = Contains (line J b) a
+Descends J a b = Contains (ancestry J b) a
 
 -- the VPE that ends by an act, if one does: it is killed, or calls `exit`
 abbrev pub ended_by : Act → Detail → Option ℕ
@@ -118,7 +118,7 @@ answered J = answered_from [] J
 
 -- whether a key has an ancestor among these keys; a key is its own ancestor
 abbrev pub descends_from_any : List Entry → List KeyName → KeyName → Bool
-descends_from_any J ks k = list_any (has_key ks) (line J k)
+descends_from_any J ks k = list_any (has_key ks) (ancestry J k)
 
 -- the forest: the made keys without an ancestor in the cut
 abbrev pub forest : Setup → List Entry → List KeyName

@@ -1,4 +1,5 @@
 pub mod Sides
+pub mod HeldKeys
 pub mod Steps
 pub mod Asks
 pub mod Revokes

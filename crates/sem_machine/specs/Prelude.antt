@@ -52,7 +52,8 @@ pub use Rattle.sem_msg.specs.declared.state.Slot.TheVariants.{Free, Held, Promis
 pub use Rattle.sem_msg.specs.declared.state.Up.{Up}
 pub use Rattle.sem_msg.specs.declared.state.Up.TheVariants.{Local, Remote}
 pub use Rattle.sem_machine.specs.Asks.{is_obtain_wait}
-pub use Rattle.sem_machine.specs.Journals.{answered, cut, cut_from, forest, grants, has_ended, line, made, root_keys}
+pub use Rattle.sem_machine.specs.Journals.{ancestry, answered, cut, cut_from, forest, grants, has_ended, made}
+pub use Rattle.sem_machine.specs.Journals.{root_keys}
 pub use Rattle.sem_machine.specs.Living.{HoldsCap, InFlight, IsComplete, IsLive}
 pub use Rattle.sem_machine.specs.Machine.{World, after, enabled, entry_of, event, is_enabled, is_locally_enabled}
 pub use Rattle.sem_machine.specs.Machine.{link, local_entry, local_step, side, start, start_side}

@@ -6,7 +6,7 @@ use Rattle.sem_msg.specs.declared.entry.Entry.{Entry}
 use Rattle.sem_machine.specs.Sides.{endpoint}
 use Rattle.sem_machine.specs.Machine.{World, side}
 use Rattle.sem_machine.specs.Schedules.{world_after}
-use Rattle.sem_machine.specs.Journals.{grants, root_keys, made, line, answered, forest}
+use Rattle.sem_machine.specs.Journals.{grants, root_keys, made, ancestry, answered, forest}
 use Rattle.sem_machine.specs.Living.{HoldsCap, HasObject, IsLive, Binds}
 
 -- live, or bound to some endpoint
@@ -21,11 +21,11 @@ IsLineage roots gs (k ∷ p ∷ ks) = Contains gs (p, k) × IsLineage roots gs (
 
 -- Lineage: every key in use derives from a root by accepted exchanges.
 abbrev pub lineage : Setup → List Entry → Type 0
-lineage T J = (k : KeyName) → IsInUse (world_after T J) k → IsLineage (root_keys T) (grants J) (line J k)
+lineage T J = (k : KeyName) → IsInUse (world_after T J) k → IsLineage (root_keys T) (grants J) (ancestry J k)
 
 -- Revoked is gone: no key in use has an ancestor that was revoked and answered.
 abbrev pub revoked_is_gone : Setup → List Entry → Type 0
-revoked_is_gone T J = (k a : KeyName) → IsInUse (world_after T J) k → Contains (line J k) a →
+revoked_is_gone T J = (k a : KeyName) → IsInUse (world_after T J) k → Contains (ancestry J k) a →
     Contains (answered J) a → ⊥
 
 -- kernel i holds the key, and no job has marked it

@@ -3,8 +3,9 @@
 use Rattle.std.specs.Prelude.{ℕ, zero, suc, ◌+◌, ◌-◌, ◌*◌, ◌%◌, Bool, true, false, List, [], ◌∷◌, ◌++◌, length}
 use Rattle.std.specs.Prelude.{count_by, slice_get, Option}
 use Rattle.std.specs.Option.{option_map_or}
-use Rattle.rand_pcg.specs.Lcg.{Lcg, advance, started, increment_of}
-use Rattle.rand_pcg.specs.Pcg.{multiplier_64, pcg32}
+use Rattle.rand_pcg.specs.Lcg.{Lcg}
+use Rattle.rand_pcg.specs.Pcg.{pcg32}
+use Rattle.sem_pick.specs.Seeds.{generator_of}
 use Rattle.sem_msg.specs.declared.event.Act.{Act}
 use Rattle.sem_msg.specs.declared.event.Act.TheVariants.{Call as Calls, Kill}
 use Rattle.sem_msg.specs.declared.event.Event.{Event}
@@ -13,14 +14,6 @@ use Rattle.sem_msg.specs.Prelude.{Setup}
 use Rattle.sem_msg.specs.Setup.{call_count, kill_count}
 use Rattle.sem_machine.specs.Machine.{World, after, entry_of, enabled}
 use Rattle.sem_machine.specs.Schedules.{world_after}
-
--- the generator of a seed at its start
-abbrev pub generator_of : ℕ → Lcg
-generator_of seed = started 64 multiplier_64 seed (increment_of 64 1)
-
--- word m of a seed, counted from 0
-abbrev pub words_of : ℕ → ℕ → ℕ
-words_of seed m = (pcg32 (advance 64 multiplier_64 m (generator_of seed))).0
 
 -- no run has more entries: 24 for each call and one for each kill
 abbrev pub entry_limit : Setup → ℕ

@@ -10,7 +10,9 @@ use Rattle.std.proofs.lemmas.List.Concat.{flat_map-append}
 use Rattle.std.proofs.Math.Seq.{take-nil, drop-nil}
 use Rattle.std.proofs.lemmas.List.{append-nil, append_assoc, set_split, take_more, take-append-drop, get_or-take, get_or-drop, get_or-map, length-take}
 use Rattle.std.proofs.lemmas.List.{length-drop, length-map, map-append, map-set, take-map, drop-map}
-use Rattle.std.proofs.lemmas.List.Elements.{All-nil, All-cons, All-head, All-tail, All-append, All-weaker, All-get_or, All-from_get_or, All-take, All-drop, filter_map-append}
+use Rattle.std.proofs.lemmas.List.Elements.{All-nil, All-cons, All-head, All-tail, All-append}
+use Rattle.std.proofs.lemmas.List.Elements.{All-weaker, All-get_or, All-from_get_or, All-take, All-drop}
+use Rattle.std.proofs.lemmas.List.Elements.{filter_map-append}
 use Rattle.sem_key.specs.declared.limits.TheConstants.{ADDRESSES}
 use Rattle.sem_access.specs.declared.run.Run.{Run}
 use Rattle.sem_access.specs.LastWrites.{looked}
@@ -349,7 +351,8 @@ pub one-split : (cs : List (Vec Run)) (i : ℕ) (c d : Vec Run) → i < length c
 one-split cs i c d within = let one : i + 1 ≡ suc i = omega arith in rw one (split-put cs i c d within)
 
 pub each-split : (cs : List (Vec Run)) (i : ℕ) (d : Vec Run) → All IsSized cs → IsSized d → All IsSized (insert cs i d)
-each-split cs i d sized is = All-append IsSized (take i cs) (d ∷ drop i cs) (All-take IsSized i cs sized) (All-cons IsSized d (drop i cs) is (All-drop IsSized i cs sized))
+each-split cs i d sized is = All-append IsSized (take i cs) (d ∷ drop i cs) (All-take IsSized i cs sized)
+    (All-cons IsSized d (drop i cs) is (All-drop IsSized i cs sized))
 
 -- several in the place of others
 pub chunks-put : (cs ds : List (Vec Run)) (i j : ℕ) (rs : List Run) → together ds ≡ rs →

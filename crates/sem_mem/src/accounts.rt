@@ -42,8 +42,7 @@ impl Account {
         ensures { OnOk result
             (IsAccountOf setup.now (past.now ++ entry.now ∷ []) self.new) }
     {
-        // Shows the proof what a setup keeps.
-        let _ = &setup.vpes;
+        setup.keeps_its_rules();
         match self.next {
             Some(access) => take_in(&mut self.memory, &mut self.lines, &access),
             None => Ok(()),

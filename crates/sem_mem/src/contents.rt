@@ -37,8 +37,7 @@ pub fn print_contents(
         (out.new.items ≡ out.old.items ++ contents setup.now journal.now.entries) }
     ensures err { OnErr result (out.new.items ≡ out.old.items) }
 {
-    // Shows the proof what a setup keeps.
-    let _ = &setup.vpes;
+    setup.keeps_its_rules();
     let account = account_of(alloc, setup, journal.as_slice())?;
     let mut told = Vec::new(alloc);
     push_contents(&mut told, &account)?;

@@ -17,8 +17,7 @@ pub fn accesses(alloc: Global, setup: &Setup, journal: &Journal) -> Result<Acces
     requires { IsSchedule setup.now journal.now.entries }
     ensures { IfOk result (λ list. list ≡ accesses_spec setup.now journal.now.entries) }
 {
-    // Shows the proof what a setup keeps.
-    let _ = &setup.vpes;
+    setup.keeps_its_rules();
     let mut world = World::boot(alloc, setup)?;
     let mut found = AccessList::new(alloc);
     for (place, entry) in journal.as_slice().iter().enumerate() {

@@ -94,7 +94,8 @@ drop-with-first [] first = refl
 drop-with-first (b ∷ bs) first = refl
 
 -- the first queue has one more message, and the others stay
-module _ (boxes now new : List (List Message)) (message : Message) (same : boxes ≡ now) (some : 0 < length now) (is : new ≡ with_box boxes 0 (box_for boxes 0 ++ message ∷ []))
+module _ (boxes now new : List (List Message)) (message : Message) (same : boxes ≡ now)
+    (some : 0 < length now) (is : new ≡ with_box boxes 0 (box_for boxes 0 ++ message ∷ []))
   where
     added : new ≡ with_box now 0 (box_for now 0 ++ message ∷ [])
     added = is ∙ ap (λ bs. with_box bs 0 (box_for bs 0 ++ message ∷ [])) same

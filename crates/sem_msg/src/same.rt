@@ -11,71 +11,39 @@ pub fn same_message(one: &Message, other: &Message) -> bool
     ensures { IsTrue result ↔ (one.now ≡ other.now) }
 {
     match one {
-        Message::ObtainReq { place, target } => match other {
-            Message::ObtainReq {
-                place: p,
-                target: t,
-            } => place == p && target == t,
-            _ => false,
-        },
+        Message::ObtainReq { place, target } => matches!(other,
+            Message::ObtainReq { place: p, target: t } if place == p && target == t),
         Message::ObtainOk {
             parent,
             key,
             object,
-        } => match other {
-            Message::ObtainOk {
-                parent: p,
-                key: k,
-                object: o,
-            } => parent == p && key == k && same_object(object, o),
-            _ => false,
-        },
-        Message::ObtainNo { place, code } => match other {
-            Message::ObtainNo { place: p, code: c } => place == p && code == c,
-            _ => false,
-        },
+        } => matches!(other,
+            Message::ObtainOk { parent: p, key: k, object: o }
+                if parent == p && key == k && same_object(object, o)),
+        Message::ObtainNo { place, code } => matches!(other,
+            Message::ObtainNo { place: p, code: c } if place == p && code == c),
         Message::DelegateReq {
             parent,
             object,
             vpe,
             sel,
-        } => match other {
-            Message::DelegateReq {
-                parent: p,
-                object: o,
-                vpe: v,
-                sel: s,
-            } => parent == p && same_object(object, o) && vpe == v && sel == s,
-            _ => false,
-        },
-        Message::DelegatePrepared { parent, key } => match other {
-            Message::DelegatePrepared { parent: p, key: k } => parent == p && key == k,
-            _ => false,
-        },
-        Message::DelegateNo { parent, code } => match other {
-            Message::DelegateNo { parent: p, code: c } => parent == p && code == c,
-            _ => false,
-        },
-        Message::Ack { key, yes } => match other {
-            Message::Ack { key: k, yes: y } => key == k && yes == y,
-            _ => false,
-        },
-        Message::Orphan { parent, key } => match other {
-            Message::Orphan { parent: p, key: k } => parent == p && key == k,
-            _ => false,
-        },
-        Message::RevokeReq { key, job } => match other {
-            Message::RevokeReq { key: k, job: j } => key == k && job == j,
-            _ => false,
-        },
-        Message::RevokeDone { job } => match other {
-            Message::RevokeDone { job: j } => job == j,
-            _ => false,
-        },
-        Message::Unlink { parent, key } => match other {
-            Message::Unlink { parent: p, key: k } => parent == p && key == k,
-            _ => false,
-        },
+        } => matches!(other,
+            Message::DelegateReq { parent: p, object: o, vpe: v, sel: s }
+                if parent == p && same_object(object, o) && vpe == v && sel == s),
+        Message::DelegatePrepared { parent, key } => matches!(other,
+            Message::DelegatePrepared { parent: p, key: k } if parent == p && key == k),
+        Message::DelegateNo { parent, code } => matches!(other,
+            Message::DelegateNo { parent: p, code: c } if parent == p && code == c),
+        Message::Ack { key, yes } => matches!(other,
+            Message::Ack { key: k, yes: y } if key == k && yes == y),
+        Message::Orphan { parent, key } => matches!(other,
+            Message::Orphan { parent: p, key: k } if parent == p && key == k),
+        Message::RevokeReq { key, job } => matches!(other,
+            Message::RevokeReq { key: k, job: j } if key == k && job == j),
+        Message::RevokeDone { job } => matches!(other,
+            Message::RevokeDone { job: j } if job == j),
+        Message::Unlink { parent, key } => matches!(other,
+            Message::Unlink { parent: p, key: k } if parent == p && key == k),
     }
 }
 
@@ -108,27 +76,12 @@ fn same_detail(one: &Detail, other: &Detail) -> bool
     ensures { IsTrue result ↔ (one.now ≡ other.now) }
 {
     match one {
-        Detail::Called { index, call } => match other {
-            Detail::Called { index: i, call: c } => index == i && call == c,
-            _ => false,
-        },
-        Detail::Carried { peer, message } => match other {
-            Detail::Carried {
-                peer: p,
-                message: m,
-            } => peer == p && same_message(message, m),
-            _ => false,
-        },
-        Detail::Asked { asker, answer } => match other {
-            Detail::Asked {
-                asker: v,
-                answer: a,
-            } => asker == v && answer == a,
-            _ => false,
-        },
-        Detail::Nothing => match other {
-            Detail::Nothing => true,
-            _ => false,
-        },
+        Detail::Called { index, call } => matches!(other,
+            Detail::Called { index: i, call: c } if index == i && call == c),
+        Detail::Carried { peer, message } => matches!(other,
+            Detail::Carried { peer: p, message: m } if peer == p && same_message(message, m)),
+        Detail::Asked { asker, answer } => matches!(other,
+            Detail::Asked { asker: v, answer: a } if asker == v && answer == a),
+        Detail::Nothing => matches!(other, Detail::Nothing),
     }
 }

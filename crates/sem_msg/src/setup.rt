@@ -1,4 +1,5 @@
 ghost use Rattle.std.specs.Prelude.{◌≡◌, IfOk};
+ghost use Rattle.sem_msg.specs.Setup.{IsSetup};
 
 use crate::call::Call;
 use crate::list::Seq;
@@ -121,6 +122,14 @@ impl Model for Setup {
 }
 
 impl Setup {
+    /// Tells a proof that the setup keeps the rules of a trace, as each does. It does nothing.
+    #[inline]
+    pub fn keeps_its_rules(&self)
+        ensures { IsSetup self.now }
+    {
+        let _ = &self.vpes;
+    }
+
     /// An equal setup.
     pub fn copy(&self, alloc: Global) -> Result<Setup, OutOfMemory>
         ensures { IfOk result (λ copy. copy ≡ self.now) }

@@ -206,8 +206,7 @@ fn run_named<N: RunName + Send + Sync, R: Threads + Wait + Sync, G: Gate + Sync>
         ≡ map (booted_spec setup.now) (range_with_len 0 setup.now.kernels) }
     ensures { IfOk result (λ r. HaveRun setup.now r.0.items r.1) }
 {
-    // Shows the proof what a setup keeps.
-    let _ = &setup.vpes;
+    setup.keeps_its_rules();
     let (turn, first) = opened.named::<N>();
     let passes = turn.split(alloc, first, setup.kernels)?;
     let nodes = nodes_of(alloc, kernels, passes)?;

@@ -1,6 +1,6 @@
 -- The children of parts, as they grow.
-use Rattle.std.proofs.Common.{◌≡◌, ◌≢◌, ℕ, ◌+◌, ◌<◌, ◌≤◌, ◌^◌, arith, Vec, Global, List, [], ◌∷◌, ◌++◌, length, map, get_or, set, slice_get, Option, None, Some}
-use Rattle.std.proofs.Common.{refl, sym, ◌∙◌, ap, subst, inl, inr}
+use Rattle.std.proofs.Common.{◌≡◌, ℕ, ◌+◌, ◌<◌, ◌≤◌, ◌^◌, arith, Vec, Global, List, [], ◌∷◌, ◌++◌, length, map, get_or, set, slice_get, Option, None, Some}
+use Rattle.std.proofs.Common.{sym, ◌∙◌, ap, subst, inl, inr}
 use Rattle.std.specs.List.{Contains, All}
 use Rattle.std.specs.Prelude.{IfNone}
 use Rattle.std.proofs.lemmas.Bool.{cases_eq, cases_lt}

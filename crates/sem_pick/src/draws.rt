@@ -1,6 +1,6 @@
 ghost use Rattle.std.specs.Prelude.{◌≡◌, ◌<◌, ◌%◌};
-ghost use Rattle.rand_pcg.specs.Lcg.{increment_of, started};
-ghost use Rattle.rand_pcg.specs.Pcg.{multiplier_64, pcg32};
+ghost use Rattle.rand_pcg.specs.Pcg.{pcg32};
+ghost use Rattle.sem_pick.specs.Seeds.{generator_of};
 
 use rand_core::utils::NextWord;
 use rand_pcg::Lcg64Xsh32;
@@ -23,7 +23,7 @@ impl Model for Draws {
 impl Draws {
     /// The words of that seed, none drawn yet.
     pub fn new(seed: u64) -> Draws
-        ensures { result ≡ started 64 multiplier_64 seed (increment_of 64 1) }
+        ensures { result ≡ generator_of seed }
     {
         Draws {
             words: Lcg64Xsh32::new(seed, 1),

@@ -11,11 +11,11 @@ use Rattle.sem_machine.specs.Upcalls.{upcall_row}
 use Rattle.sem_machine.specs.Handles.{handle_row}
 use Rattle.sem_machine.specs.Resumes.{resume_row}
 use Rattle.sem_machine.specs.Machine.{start_side, start, local_step, local_entry, is_locally_enabled, is_enabled, enabled, after, entry_of}
-use Rattle.sem_machine.specs.Journals.{root_keys_from, line_in, cut_from}
+use Rattle.sem_machine.specs.Journals.{root_keys_from, ancestry_in, cut_from}
 use Rattle.sem_plays.specs.Played.{acted, backwards}
 use Rattle.sem_plays.specs.RefusalForTheDead.{trace, events, journal, outcome, refusal_for_the_dead}
 
 pub holds : refusal_for_the_dead
 unfolding trace events journal outcome put in_turn unless root_keys_from services_from grow closed_here finish opened ended call_row upcall_row handle_row
-    resume_row start_side start local_step local_entry is_locally_enabled is_enabled enabled after entry_of line_in cut_from acted backwards
+    resume_row start_side start local_step local_entry is_locally_enabled is_enabled enabled after entry_of ancestry_in cut_from acted backwards
 holds = refl

@@ -40,7 +40,7 @@ use Rattle.sem_machine.specs.Steps.{Step, unshown, answer, cutting}
 use Rattle.sem_machine.specs.Asks.{asker, is_unawaited, promise_freed, refusal_sent, ask_refused, call_refused}
 use Rattle.sem_machine.specs.Calls.{own_tests, call_row}
 use Rattle.sem_machine.specs.Revokes.{begin, revoke_begun, clear_begun, waiter_left, ready_freed, request_begun, revoke_requested}
-use Rattle.sem_machine.specs.Ends.{ask_ended, call_ended, revoked_if_left, keys_of, ended_but_held, ended}
+use Rattle.sem_machine.specs.Ends.{ask_ended, call_ended, revoked_if_left, keys_of_vpe, ended_but_held, ended}
 use Rattle.sem_machine.specs.Handles.{handle_row, handled}
 use Rattle.sem_machine.specs.Machine.{World, side, start, next_call, input_of, detail_of, local_step, entry_of}
 use Rattle.sem_machine.specs.Schedules.{IsSchedule, world_after}
@@ -149,7 +149,7 @@ module _ (xs : List Capability) (T : Setup) (i : ℕ) where
       let all : Side = in_turn (ask_ended T i) (row t v).asks (buried v t) in
       let told : P all = in_turn-keeps P (ask_ended T i) (λ a u here. ask_ended-stay a u here) (row t v).asks (buried v t) S in
       let left : P (ended_but_held T i v t) = call_ended-stay (parked all v) v (unparked v all) told in
-      in_turn-keeps P (revoked_if_left T i) (λ k u here. left-stay k u here (cap u k) refl) (keys_of (ended_but_held T i v t) v) (ended_but_held T i v t) left
+      in_turn-keeps P (revoked_if_left T i) (λ k u here. left-stay k u here (cap u k) refl) (keys_of_vpe (ended_but_held T i v t) v) (ended_but_held T i v t) left
 
   -- Calls and messages.
   abbrev StaysSo : Step → Type 0

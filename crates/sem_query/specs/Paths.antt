@@ -1,6 +1,6 @@
 -- The path of a key: the keys that it was made from, and which of them were cut.
 use Rattle.std.specs.Prelude.{ℕ, Bool, true, false, List, [], ◌∷◌, map, codes, if◌then◌else◌}
-use Rattle.sem_machine.specs.Prelude.{KeyName, has_key, Entry, Setup, made, cut, line}
+use Rattle.sem_machine.specs.Prelude.{KeyName, has_key, Entry, Setup, made, cut, ancestry}
 use Rattle.sem_text.specs.Lines.{text}
 use Rattle.sem_trace.specs.Words.{key_word}
 
@@ -16,7 +16,7 @@ step_words cut_keys k = codes "key" ∷ key_word k ∷ cut_word (has_key cut_key
 abbrev pub path_lines : Setup → List Entry → KeyName → List (List (List ℕ))
 path_lines T J k =
     if has_key (made T J) k
-    then map (step_words (cut T J)) (line J k)
+    then map (step_words (cut T J)) (ancestry J k)
     else (codes "none" ∷ []) ∷ []
 
 -- the text of the path

@@ -30,8 +30,7 @@ impl Index {
         requires { IsSchedule setup.now journal.now.entries }
         ensures { IfOk result (λ index. index ≡ lives setup.now journal.now.entries) }
     {
-        // Shows the proof what a setup keeps.
-        let _ = &setup.vpes;
+        setup.keeps_its_rules();
         let mut world = World::boot(alloc, setup)?;
         let mut index = begin(alloc, setup, journal, &world)?;
         follow_all(alloc, &mut index, setup, &mut world, journal.as_slice())?;

@@ -45,8 +45,7 @@ fn push_answer(
     ensures { OnOk result ((t : List ℕ) × IsDenied setup.now journal.now.entries n t
         × (out.new.items ≡ out.old.items ++ t)) }
 {
-    // Shows the proof what a setup keeps.
-    let _ = &setup.vpes;
+    setup.keeps_its_rules();
     let Some(reply) = denial_at(journal, n) else {
         return out.extend_from_slice(b"none\n");
     };

@@ -2,7 +2,7 @@ ghost use Rattle.std.specs.Prelude.{◌≡◌, ◌++◌, map, length, OnOk, OnEr
 ghost use Rattle.std.specs.Option.{option_to_list};
 ghost use Rattle.sem_key.specs.Region.{has_key as has_key_spec};
 ghost use Rattle.sem_text.specs.Lines.{line, text};
-ghost use Rattle.sem_machine.specs.Journals.{parent_in, grants, line_in};
+ghost use Rattle.sem_machine.specs.Journals.{parent_in, grants, ancestry_in};
 ghost use Rattle.sem_machine.specs.Schedules.{IsSchedule};
 ghost use Rattle.sem_query.specs.Paths.{cut_word as cut_word_spec, step_words, path as path_spec};
 
@@ -55,7 +55,7 @@ fn push_path(
 fn push_line(out: &mut Vec<u8>, cut: &Keys, journal: &Journal, key: Key) -> Result<(), OutOfMemory>
     ensures { OnOk result (out.new.items ≡ out.old.items
         ++ text (map (step_words cut.now.keys)
-        (line_in (length journal.now.entries) (grants journal.now.entries) key))) }
+        (ancestry_in (length journal.now.entries) (grants journal.now.entries) key))) }
 {
     push_step(out, cut, key)?;
     let mut last = key;

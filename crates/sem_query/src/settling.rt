@@ -28,8 +28,7 @@ pub fn settling_entry(
     ensures settles { IfOk result (λ i. Settles setup.now journal.now.entries vpe n i) }
     ensures by_then { IfOk result (λ i. i ≤ n) }
 {
-    // Shows the proof what a setup keeps.
-    let _ = &setup.vpes;
+    setup.keeps_its_rules();
     let call = last_call(journal, vpe, n);
     if call == n {
         return Ok(n);

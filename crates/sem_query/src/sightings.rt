@@ -41,8 +41,7 @@ impl Sighting {
         ensures key { self.new.key ≡ self.old.key }
         ensures count { self.new.count ≡ self.old.count }
     {
-        // Shows the proof what a setup keeps.
-        let _ = &setup.vpes;
+        setup.keeps_its_rules();
         self.there = match held_selector(setup, world, self.key) {
             Some(sel) => Holder::Unmarked(sel),
             None => Holder::No,
@@ -69,8 +68,7 @@ impl Sighting {
         ensures key { self.new.key ≡ self.old.key }
         ensures count { self.new.count ≡ self.old.count }
     {
-        // Shows the proof what a setup keeps.
-        let _ = &setup.vpes;
+        setup.keeps_its_rules();
         if past.len() as u64 >= self.count {
             return;
         }

@@ -22,7 +22,8 @@ use Rattle.sem_trace.specs.LineErrors.{fault_of}
 use Rattle.sem_report.specs.ReportRefusal.{first_difference, report_refusal}
 use Rattle.sem_report.specs.ReportRanges.{ReportFits}
 use Rattle.sem_report.proofs.PrintedReport.{same_lines}
-use Rattle.sem_audit.specs.HeldKeys.{keys_held, report, IsAuditOf}
+use Rattle.sem_machine.specs.HeldKeys.{keys_held}
+use Rattle.sem_audit.specs.Reported.{report, IsAuditOf}
 use Rattle.sem_check.specs.Replays.{DiffersAt}
 use Rattle.sem_check.specs.Verdicts.{GoesOn}
 use Rattle.sem_cli.specs.Refusals.{bad_line, differing_line as differing_entry, going_on_line}

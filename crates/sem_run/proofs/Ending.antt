@@ -11,7 +11,7 @@ use Rattle.sem_gen.proofs.Loads.{none-killed, none-exits, calls-counted}
 use Rattle.sem_machine.specs.Schedules.{IsSchedule, world_after}
 use Rattle.sem_machine.specs.Living.{IsComplete}
 use Rattle.sem_machine.specs.Seeded.{seeded}
-use Rattle.sem_audit.specs.HeldKeys.{report}
+use Rattle.sem_audit.specs.Reported.{report}
 use Rattle.sem_audit.specs.Straying.{stray_count}
 use Rattle.sem_audit.proofs.Answering.{all-answered}
 use Rattle.sem_audit.proofs.Straying.{none-stray}

@@ -8,7 +8,7 @@ use Rattle.sem_msg.specs.Setup.{Setup}
 use Rattle.sem_machine.specs.Living.{IsComplete}
 use Rattle.sem_report.specs.Audited.{audited, AuditFits, first_wrong_line}
 use Rattle.sem_report.proofs.TraceInReport.{same_text}
-use Rattle.sem_audit.specs.HeldKeys.{report, IsAuditOf}
+use Rattle.sem_audit.specs.Reported.{report, IsAuditOf}
 use Rattle.sem_run.specs.Reports.{TellsReport, TellsComplete}
 use Rattle.sem_run.specs.Readings.{TellsAudit}
 use Rattle.sem_run.proofs.Accepting.{report-fits}

@@ -8,7 +8,7 @@ use Rattle.sem_text.specs.Lines.{text}
 use Rattle.sem_journal.specs.EntryText.{entry_words}
 use Rattle.sem_journal.specs.ReportText.{audit_lines, report_text}
 use Rattle.sem_report.specs.ReportHead.{BeginsReport}
-use Rattle.sem_audit.specs.HeldKeys.{report, IsAuditOf}
+use Rattle.sem_audit.specs.Reported.{report, IsAuditOf}
 
 -- `first` and `tail` were appended to empty texts, and `head` is `first`
 pub report-parts : (T : Setup) (J : List Entry) (a : Audit) (before before' first head tail : List ℕ) → before ≡ [] → BeginsReport T J before first →

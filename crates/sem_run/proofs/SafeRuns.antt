@@ -9,7 +9,8 @@ use Rattle.sem_msg.specs.declared.entry.Entry.{Entry}
 use Rattle.sem_msg.specs.Setup.{Setup, IsSetup}
 use Rattle.sem_machine.specs.Machine.{World, start, after, entry_of, enabled, is_enabled}
 use Rattle.sem_machine.specs.Schedules.{IsRun, IsSchedule}
-use Rattle.sem_machine.specs.Seeded.{drain, entry_limit, picked, generator_of, seeded}
+use Rattle.sem_machine.specs.Seeded.{drain, entry_limit, picked, seeded}
+use Rattle.sem_pick.specs.Seeds.{generator_of}
 use Rattle.sem_bound.proofs.Spent.{limited}
 use Rattle.sem_revoke.proofs.Safe.{all-safe}
 use Rattle.sem_machine.proofs.Pushing.{entry_of-event}

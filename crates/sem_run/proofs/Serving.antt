@@ -11,7 +11,7 @@ use Rattle.sem_io.specs.SinkBytes.{Appends, AppendsPrefix}
 use Rattle.sem_trace.specs.Refusal.{refusal}
 use Rattle.sem_files.specs.FileRefusal.{refusal as files_refusal}
 use Rattle.sem_report.specs.declared.verdict.Verdict.{Verdict}
-use Rattle.sem_audit.specs.HeldKeys.{report}
+use Rattle.sem_audit.specs.Reported.{report}
 use Rattle.sem_cli.specs.declared.forms.Command.{Command}
 use Rattle.sem_cli.specs.declared.forms.Command.TheVariants.{Run, Threads, Files, Generate, Soak, Ask}
 use Rattle.sem_cli.specs.declared.statuses.Status.{Status}

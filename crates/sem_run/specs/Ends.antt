@@ -9,7 +9,7 @@ use Rattle.sem_trace.specs.declared.fault.TraceFault.{TraceFault}
 use Rattle.sem_trace.specs.TraceText.{canonical}
 use Rattle.sem_gen.specs.Generated.{generated}
 use Rattle.sem_machine.specs.Safety.{IsSafe}
-use Rattle.sem_audit.specs.HeldKeys.{report}
+use Rattle.sem_audit.specs.Reported.{report}
 use Rattle.sem_access.specs.ContentsText.{contents}
 use Rattle.sem_query.specs.HolderText.{holder_text}
 use Rattle.sem_query.specs.Paths.{path}

@@ -4,7 +4,7 @@ use Rattle.sem_machine.specs.Prelude.{Audit, Entry, replies, Setup, IsSetup, wor
 use Rattle.sem_files.specs.Files.{Files}
 use Rattle.sem_files.specs.Compiled.{compiled}
 use Rattle.sem_kernel.specs.KernelValue.{KernelValue}
-use Rattle.sem_audit.specs.HeldKeys.{report}
+use Rattle.sem_audit.specs.Reported.{report}
 use Rattle.sem_audit.specs.Straying.{stray_count}
 use Rattle.sem_cli.specs.declared.forms.Command.{Command}
 use Rattle.sem_cli.specs.declared.forms.Question.{Question}

@@ -11,7 +11,7 @@ use Rattle.sem_trace.specs.Forms.{whole_line}
 use Rattle.sem_trace.specs.LineErrors.{fault_of}
 use Rattle.sem_report.specs.ReportRefusal.{report_refusal}
 use Rattle.sem_report.specs.ReportRanges.{ReportFits}
-use Rattle.sem_audit.specs.HeldKeys.{report, IsAuditOf}
+use Rattle.sem_audit.specs.Reported.{report, IsAuditOf}
 use Rattle.sem_check.specs.Replays.{DiffersAt}
 use Rattle.sem_check.specs.Verdicts.{GoesOn}
 use Rattle.sem_cli.specs.Messages.{ok_line}

@@ -109,8 +109,7 @@ fn push_answer(
     ensures { OnOk result
         (IsAnswer (question_about finding.now) setup.now journal.now.entries out.new.items) }
 {
-    // Shows the proof what a setup keeps.
-    let _ = &setup.vpes;
+    setup.keeps_its_rules();
     match finding {
         Finding::Nothing => out.extend_from_slice(ok()),
         Finding::Accounted(account) => push_contents(out, account),

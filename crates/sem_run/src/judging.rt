@@ -5,7 +5,7 @@ ghost use Rattle.sem_check.specs.Verdicts.{TellsDifference, TellsNext};
 ghost use Rattle.sem_trace.specs.SetupOfText.{IsWhy};
 ghost use Rattle.sem_report.specs.Audited.{audited, AuditFits, first_wrong_line};
 ghost use Rattle.sem_report.specs.ReportRefusal.{report_refusal};
-ghost use Rattle.sem_audit.specs.HeldKeys.{IsAuditOf};
+ghost use Rattle.sem_audit.specs.Reported.{IsAuditOf};
 ghost use Rattle.sem_run.specs.Reports.{IsVerdict};
 ghost use Rattle.sem_run.specs.Readings.{TellsAudit};
 ghost use Rattle.sem_run.specs.Findings.{IfAccepted, IsOf};

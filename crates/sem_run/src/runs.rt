@@ -3,13 +3,13 @@ ghost use Rattle.std.specs.Prelude.{◌≡◌, ℕ, Option, Some, IfOk, IfErr, O
 ghost use Rattle.sem_machine.specs.Living.{IsComplete};
 ghost use Rattle.sem_machine.specs.Schedules.{IsSchedule};
 ghost use Rattle.sem_machine.specs.Seeded.{drained};
-ghost use Rattle.sem_audit.specs.HeldKeys.{report};
+ghost use Rattle.sem_audit.specs.Reported.{report};
 ghost use Rattle.sem_cli.specs.declared.forms.Command.{Command as CommandData};
 ghost use Rattle.sem_cli.specs.declared.forms.Command.TheVariants.{Run as RunCommand};
 ghost use Rattle.sem_cli.specs.Messages.{refused_line};
 ghost use Rattle.sem_kernel.specs.Standing.{StandsAt};
 ghost use Rattle.sem_run.specs.Inputs.{input_given, AsksRun, ReadsTrace};
-ghost use Rattle.sem_audit.specs.HeldKeys.{IsAuditOf};
+ghost use Rattle.sem_audit.specs.Reported.{IsAuditOf};
 ghost use Rattle.sem_run.specs.Readings.{AreAfter, EndsRun, IsOkWith, Responds, TellsRefusal};
 ghost use Rattle.sem_run.specs.Texts.{text_of};
 
@@ -71,8 +71,7 @@ pub fn read_setup<S: Source>(alloc: Global, input: &mut S) -> Result<Setup, Resp
     };
     match read_trace(alloc, &bytes) {
         Ok(setup) => {
-            // Shows the proof what a setup keeps.
-            let _ = &setup.vpes;
+            setup.keeps_its_rules();
             Ok(setup)
         }
         Err(TraceError::Refused(fault)) => Err(refuse_trace(alloc, &fault)),

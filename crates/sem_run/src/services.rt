@@ -53,9 +53,9 @@ fn read_service<S: Source>(alloc: Global, input: &mut S) -> Result<Setup, Respon
     };
     match compile(alloc, &files) {
         Ok(setup) => {
-            // Shows the proof what file commands and a setup keep.
+            // Shows the proof what file commands keep.
             let _ = &files.kernels;
-            let _ = &setup.vpes;
+            setup.keeps_its_rules();
             Ok(setup)
         }
         Err(_) => Err(Response::out_of_memory(alloc, Journal::new(alloc))),

@@ -43,8 +43,7 @@ pub fn soak_load<R: Threads + Wait + Sync, G: Gate + Sync>(
         Ok(setup) => setup,
         Err(_) => return Response::out_of_memory(alloc, Journal::new(alloc)),
     };
-    // Shows the proof what a setup keeps.
-    let _ = &setup.vpes;
+    setup.keeps_its_rules();
     let started = run_in_threads(rt, alloc, &setup, gate);
     let Run { journal, kernels } = run_to_end(alloc, &setup, started, seed);
     let calls = u64::from(vpes) * u64::from(calls);

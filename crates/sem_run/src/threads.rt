@@ -46,8 +46,7 @@ pub fn run_in_threads<R: Threads + Wait + Sync, G: Gate + Sync>(
 ) -> Started
     ensures { IfOk result (λ r. StandsAt setup.now r.0.items r.1) }
 {
-    // Shows the proof what a setup keeps.
-    let _ = &setup.vpes;
+    setup.keeps_its_rules();
     let kernels = boot_kernels(alloc, setup)?;
     let fabric = Fabric::new(alloc, setup, Journal::new(alloc))?;
     run_threads(rt, alloc, setup, kernels, fabric, gate)

@@ -27,7 +27,7 @@ use Rattle.sem_machine.specs.Sound.{IsSoundCall, IsSoundAsk, kept, IsSound, one_
 use Rattle.sem_machine.specs.Sides.{Side, row, cap, parked, unparked, buried, ready, freed}
 use Rattle.sem_machine.specs.Asks.{asker, waits_for, is_unawaited, promise_freed, call_refused, refusal_sent, ask_refused}
 use Rattle.sem_machine.specs.Revokes.{waiter_left, begin}
-use Rattle.sem_machine.specs.Ends.{ask_ended, call_ended, ended_but_held, revoked_if_left, keys_of, ended}
+use Rattle.sem_machine.specs.Ends.{ask_ended, call_ended, ended_but_held, revoked_if_left, keys_of_vpe, ended}
 use Rattle.sem_key.proofs.Puts.{get_or-put_same, get_or-put_other}
 use Rattle.sem_key.proofs.Members.{Contains-nil, Contains-from_filter, Contains-from_map}
 use Rattle.sem_machine.proofs.Folds.{in_turn-keeps, in_turn-keeps_each}
@@ -287,4 +287,4 @@ module _ (T : Setup) (valid : IsSetup T) (i : ℕ) (few : i < T.kernels) where
   ended-sound s is v local =
       let left : Side = ended_but_held T i v s in
       in_turn-keeps (λ t. IsSound T i t × NoMore (unparked v s) t) (revoked_if_left T i) (λ k t here. let step = revoked-sound k (cap t k) t refl here.0 in
-      (step.0, chained (unparked v s) t (revoked_if_there i k (cap t k) t) here.1 step.1)) (keys_of left v) left (ended_but_held-sound s is v local)
+      (step.0, chained (unparked v s) t (revoked_if_there i k (cap t k) t) here.1 step.1)) (keys_of_vpe left v) left (ended_but_held-sound s is v local)

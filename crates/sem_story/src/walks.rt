@@ -45,8 +45,7 @@ impl Walk {
     fn start(alloc: Global, setup: &Setup, key: Key) -> Result<Walk, OutOfMemory>
         ensures { IfOk result (λ w. IsAfter setup.now [] key w) }
     {
-        // Shows the proof what a setup keeps.
-        let _ = &setup.vpes;
+        setup.keeps_its_rules();
         lives_go_on();
         lives_tell_where_keys_are();
         let world = World::boot(alloc, setup)?;
@@ -74,8 +73,7 @@ impl Walk {
             → IsAfter setup.now before key self.old
             → IsAfter setup.now (before ++ entry.now ∷ []) key self.new) }
     {
-        // Shows the proof what a setup keeps.
-        let _ = &setup.vpes;
+        setup.keeps_its_rules();
         entries_move_few_keys();
         moved_keys_are_seen_at_home();
         keys_live_once();

@@ -42,8 +42,7 @@ pub fn holdings_after(
     ensures writers { IfOk result (λ h. All (IsWriter h.accesses) h.rows.items) }
     ensures looks { IfOk result (λ h. h.looks.items ≡ map (found_by h.accesses) h.accesses) }
 {
-    // Shows the proof what a setup keeps.
-    let _ = &setup.vpes;
+    setup.keeps_its_rules();
     let list = accesses(alloc, setup, journal)?;
     let (memory, looks) = followed(alloc, list.as_slice())?;
     let runs = memory.runs(alloc)?;

@@ -1,6 +1,6 @@
 -- What the top call leaves in memory is the answer that is promised.
 use Rattle.std.proofs.Common.{◌≡◌, ℕ, Bool, true, false, List, [], ◌++◌, Option, Some, None, IfSome, refl, sym, ◌∙◌, ap, subst, append-nil, arith, inl, inr}
-use Rattle.std.proofs.Common.{◌∷◌, ◌<◌, ◌^◌, map, codes, decimal, String, string_bytes}
+use Rattle.std.proofs.Common.{◌∷◌, ◌<◌, ◌^◌, codes, decimal, String, string_bytes}
 use Rattle.std.specs.Prelude.{◌≢◌}
 use Rattle.std.proofs.lemmas.Bool.{false≢true}
 use Rattle.std.proofs.lemmas.Option.{none-some, same_Some}
@@ -8,13 +8,12 @@ use Rattle.sem_msg.specs.declared.entry.Entry.{Entry}
 use Rattle.sem_msg.specs.Setup.{Setup}
 use Rattle.sem_io.specs.Count.{Rose}
 use Rattle.sem_io.specs.SourceBytes.{Takes}
-use Rattle.sem_io.specs.SinkBytes.{Appends}
 use Rattle.sem_trace.specs.SetupOfText.{Stands}
 use Rattle.sem_reader.proofs.Decimals.{number_of-decimal}
 use Rattle.sem_machine.specs.Seeded.{seeded}
 use Rattle.sem_machine.specs.Living.{IsComplete}
 use Rattle.sem_revoke.proofs.Safe.{all-safe}
-use Rattle.sem_audit.specs.HeldKeys.{report}
+use Rattle.sem_audit.specs.Reported.{report}
 use Rattle.sem_cli.specs.declared.forms.Command.{Command}
 use Rattle.sem_cli.specs.declared.forms.Command.TheVariants.{Run, Threads, Files, Generate, Soak, Ask}
 use Rattle.sem_cli.specs.declared.forms.Question.{Question}

@@ -6,7 +6,7 @@ use Rattle.sem_trace.specs.declared.fault.TraceFault.{TraceFault}
 use Rattle.sem_trace.specs.Refusal.{refusal}
 use Rattle.sem_trace.specs.SetupOfText.{Stands}
 use Rattle.sem_machine.specs.Safety.{IsSafe}
-use Rattle.sem_audit.specs.HeldKeys.{report}
+use Rattle.sem_audit.specs.Reported.{report}
 use Rattle.sem_cli.specs.declared.forms.Question.{Question}
 use Rattle.sem_cli.specs.declared.statuses.Status.{Status}
 use Rattle.sem_cli.specs.declared.statuses.Status.TheVariants.{Done, Usage, TraceRefused, ReadFault, WriteFault}

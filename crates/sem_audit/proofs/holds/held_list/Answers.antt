@@ -3,7 +3,7 @@ use Rattle.std.proofs.lemmas.Result.{IfOk-weaker}
 use Rattle.sem_msg.specs.declared.audit.Held.{Held}
 use Rattle.sem_msg.specs.Audits.{held_pairs}
 use Rattle.sem_kernel.specs.KernelValue.{KernelValue}
-use Rattle.sem_audit.specs.HeldKeys.{keys_held}
+use Rattle.sem_machine.specs.HeldKeys.{keys_held}
 use Rattle.sem_audit.proofs.Order.{held-is}
 use Rattle.sem_audit.proofs.holds.held_list.Goals as goal
 

@@ -1,6 +1,5 @@
-use Rattle.std.proofs.Common.{Result, Ok, Err, subst, rules}
+use Rattle.std.proofs.Common.{Result, Ok, Err, rules}
 use Rattle.std.specs.Prelude.{OnOk}
-use Rattle.sem_msg.specs.Setup.{IsSetup}
 use Rattle.sem_bound.proofs.Spent.{limited}
 use Rattle.sem_check.proofs.Following.{start-after}
 use Rattle.sem_check.proofs.checks.check_watched.Goals as goal
@@ -16,4 +15,4 @@ on-ok (Err e) x = tt
 pub returns-in-None-clause-few : goal.returns-in-None-clause-few
 returns-in-None-clause-few g c =
     let stands = rw c.as_slice-entries.ensures at (c.in_ok-follow.ensures.all (search rules)) in
-    on-ok c.judge.result (limited c.args.setup.now (subst IsSetup c.setup.view_is c.setup.invariant) c.args.journal.now.entries stands.schedule)
+    on-ok c.judge.result (limited c.args.setup.now c.keeps_its_rules.ensures c.args.journal.now.entries stands.schedule)

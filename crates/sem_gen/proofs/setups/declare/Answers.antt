@@ -1,7 +1,7 @@
 use Rattle.std.proofs.Common.{◌≡◌, ◌*◌, ap, ◌∙◌, arith}
 use Rattle.rand_pcg.specs.Lcg.{advance}
 use Rattle.rand_pcg.specs.Pcg.{multiplier_64}
-use Rattle.sem_gen.specs.Generated.{generator_of}
+use Rattle.sem_pick.specs.Seeds.{generator_of}
 use Rattle.sem_gen.proofs.Drawing.{advance-zero, words-more, vpes-more}
 use Rattle.sem_gen.proofs.setups.declare.Goals as goal
 

@@ -2,7 +2,8 @@ use Rattle.std.proofs.Common.{◌≡◌, ◌*◌, map}
 use Rattle.std.specs.List.{range_with_len}
 use Rattle.rand_pcg.specs.Lcg.{advance}
 use Rattle.rand_pcg.specs.Pcg.{multiplier_64}
-use Rattle.sem_gen.specs.Generated.{generator_of, vpe_of}
+use Rattle.sem_gen.specs.Generated.{vpe_of}
+use Rattle.sem_pick.specs.Seeds.{generator_of}
 use Rattle.sem_gen.proofs.setups.declare.Given as goal
 
 -- the first VPEs are declared, and their words are drawn

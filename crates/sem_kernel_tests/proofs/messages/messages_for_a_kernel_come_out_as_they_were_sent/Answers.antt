@@ -1,4 +1,4 @@
-use Rattle.std.proofs.Common.{rules, ◌≡◌, ℕ, zero, suc, ◌<◌, ◌≤◌, length, List, [], ◌∷◌, ap, sym, arith}
+use Rattle.std.proofs.Common.{rules, ◌≡◌, ℕ, zero, suc, ◌<◌, ◌≤◌, length, List, [], ◌∷◌, ap, arith}
 use Rattle.sem_key.specs.Lists.{put}
 use Rattle.sem_msg.specs.Outboxes.{with_box}
 use Rattle.sem_msg.specs.declared.message.Message.{Message}

@@ -1,5 +1,4 @@
-use Rattle.std.proofs.Common.{◌≡◌, ◌++◌, map, take, ◌∙◌, ap}
-use Rattle.std.proofs.lemmas.List.{take_all}
+use Rattle.std.proofs.Common.{◌++◌, map, take, ◌∙◌, ap}
 use Rattle.sem_text.specs.Lines.{text}
 use Rattle.sem_access.specs.ContentsText.{run_line}
 use Rattle.sem_mem.specs.Chunks.{together}

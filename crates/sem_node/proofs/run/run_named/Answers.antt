@@ -10,7 +10,7 @@ use Rattle.sem_node.proofs.run.run_named.Goals as goal
 
 pub nodes_of-requires-clause-run : goal.nodes_of-requires-clause-run
 nodes_of-requires-clause-run g c =
-    let valid : IsSetup c.args.setup.now = subst IsSetup c.setup.view_is c.setup.invariant in
+    let valid : IsSetup c.args.setup.now = c.keeps_its_rules.ensures in
     let same : c.args.setup.now ≡ g.N.RunName.setup = sym c.requires.setup ∙ c.requires.named.1 in
     starts c.args.setup.now g.N.RunName.setup _ _ valid same c.requires.booted c.in_ok-passes.ensures
 

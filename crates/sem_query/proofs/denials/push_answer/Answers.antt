@@ -1,9 +1,8 @@
-use Rattle.std.proofs.Common.{◌≡◌, ℕ, ◌<◌, ◌++◌, List, length, get_or, slice_get, Some, refl, sym, ap, ◌∙◌, subst, arith, rules}
+use Rattle.std.proofs.Common.{◌≡◌, ℕ, ◌<◌, ◌++◌, List, length, get_or, slice_get, Some, refl, sym, ap, ◌∙◌, arith, rules}
 use Rattle.std.specs.Prelude.{OnOk}
 use Rattle.std.proofs.lemmas.Option.{slice_get_within, slice_get_read}
 use Rattle.std.proofs.lemmas.Result.{on_ok_weaker}
 use Rattle.sem_msg.specs.declared.entry.Entry.{Entry}
-use Rattle.sem_msg.specs.Setup.{IsSetup}
 use Rattle.sem_query.specs.Denials.{denied_line, none_line}
 use Rattle.sem_query.specs.Denials.IsDenied.{denied, not_denied}
 use Rattle.sem_query.proofs.Replied.{reply-called}
@@ -19,7 +18,7 @@ returns-in_default c =
 pub settling_entry-requires-clause-called : goal.settling_entry-requires-clause-called
 settling_entry-requires-clause-called c =
     let denies = c.in-Some.ensures in
-    reply-called c.args.setup.now (subst IsSetup c.setup.view_is c.setup.invariant) c.args.journal.now.entries c.requires c.args.n denies.0 c.in-Some.reply
+    reply-called c.args.setup.now c.keeps_its_rules.ensures c.args.journal.now.entries c.requires c.args.n denies.0 c.in-Some.reply
     denies.1 denies.2
 
 pub settling_entry-requires-clause-there : goal.settling_entry-requires-clause-there
@@ -35,7 +34,7 @@ bounds-as_slice-place c =
 pub code_of-requires : goal.code_of-requires
 code_of-requires c =
     let denies = c.in-Some.ensures in
-    reply-small c.args.setup.now (subst IsSetup c.setup.view_is c.setup.invariant) c.args.journal.now.entries c.requires c.args.n denies.0 denies.1
+    reply-small c.args.setup.now c.keeps_its_rules.ensures c.args.journal.now.entries c.requires c.args.n denies.0 denies.1
     c.in-Some.reply denies.2
 
 pub returns : goal.returns

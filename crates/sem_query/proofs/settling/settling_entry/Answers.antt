@@ -2,7 +2,6 @@ use Rattle.std.proofs.Common.{◌≡◌, ℕ, ◌-◌, ◌<◌, List, length, ta
 use Rattle.std.proofs.lemmas.List.{get_or_default}
 use Rattle.sem_msg.specs.declared.entry.Entry.{Entry}
 use Rattle.sem_msg.specs.declared.state.Parked.{Parked}
-use Rattle.sem_msg.specs.Setup.{IsSetup}
 use Rattle.sem_machine.specs.Schedules.{IsSchedule}
 use Rattle.sem_query.specs.Denials.{IsLastCall}
 use Rattle.sem_query.specs.Denials.Settles.{at_once}
@@ -16,11 +15,11 @@ returns-then-call-n-clause-settles c = at_once (subst (IsLastCall c.args.journal
 pub states_since-requires-clause-schedule : goal.states_since-requires-clause-schedule
 states_since-requires-clause-schedule c =
     subst (λ (J : List Entry). IsSchedule c.args.setup.now (take c.args.n J)) (sym c.as_slice.ensures)
-    (front-runs c.args.setup.now (subst IsSetup c.setup.view_is c.setup.invariant) c.args.journal.now.entries c.requires.schedule c.args.n c.requires.there)
+    (front-runs c.args.setup.now c.keeps_its_rules.ensures c.args.journal.now.entries c.requires.schedule c.args.n c.requires.there)
 
 pub states_since-requires-clause-vpe : goal.states_since-requires-clause-vpe
 states_since-requires-clause-vpe c =
-    called-small c.args.setup.now (subst IsSetup c.setup.view_is c.setup.invariant) c.args.journal.now.entries c.requires.schedule c.args.vpe c.args.n
+    called-small c.args.setup.now c.keeps_its_rules.ensures c.args.journal.now.entries c.requires.schedule c.args.vpe c.args.n
     c.requires.called
 
 pub index-last-requires : goal.index-last-requires

@@ -1,7 +1,5 @@
 use Rattle.std.proofs.Common.{rules}
 use Rattle.sem_run.proofs.FoundVerdicts.{tells-report}
-use Rattle.sem_run.proofs.ReadInput.{if-accepted}
-use Rattle.sem_report.specs.Audited.{audited}
 use Rattle.sem_run.proofs.judging.judge_told.Goals as goal
 
 -- an entry differs

@@ -1,5 +1,3 @@
-use Rattle.std.proofs.Common.{subst}
-use Rattle.sem_msg.specs.Setup.{IsSetup}
 use Rattle.sem_run.proofs.Ending.{fault-ends}
 use Rattle.sem_run.proofs.ReadInput.{reads-trace, reads-refused}
 use Rattle.sem_run.proofs.runs.read_setup.Goals as goal
@@ -7,7 +5,7 @@ use Rattle.sem_run.proofs.runs.read_setup.Goals as goal
 -- the text stands for a setup
 pub returns-in-Ok-read_trace-clause-reads : goal.returns-in-Ok-read_trace-clause-reads
 returns-in-Ok-read_trace-clause-reads g c asked = reads-trace _ c.in-Ok.bytes.items c.in-Ok.ensures.bytes c.in-Ok-read_trace.setup c.in-Ok.ensures.taken
-    (rw c.deref.ensures.value at c.in-Ok-read_trace.ensures.stands) (subst IsSetup c.setup.view_is c.setup.invariant)
+    (rw c.deref.ensures.value at c.in-Ok-read_trace.ensures.stands) c.keeps_its_rules.ensures
 
 -- it is refused
 pub returns-in-Err-Refused-clause-refused : goal.returns-in-Err-Refused-clause-refused

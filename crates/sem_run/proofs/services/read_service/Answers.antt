@@ -1,5 +1,4 @@
 use Rattle.std.proofs.Common.{subst}
-use Rattle.sem_msg.specs.Setup.{IsSetup}
 use Rattle.sem_files.specs.Compiled.{AreFiles}
 use Rattle.sem_run.proofs.Ending.{files-fault-ends}
 use Rattle.sem_run.proofs.ReadInput.{reads-files, files-refused}
@@ -12,7 +11,7 @@ returns-in-Ok-compile-clause-reads g c asked = record {
   read = reads-files _ c.in-Ok.bytes.items c.in-Ok.ensures.bytes c.in-Ok-read_files.files c.in-Ok.ensures.taken
       (rw c.deref.ensures.value at c.in-Ok-read_files.ensures.stands) (subst AreFiles c.files.view_is c.files.invariant);
   made = c.in-Ok-compile.ensures;
-  valid = subst IsSetup c.setup.view_is c.setup.invariant;
+  valid = c.keeps_its_rules.ensures;
 }
 
 -- it is refused

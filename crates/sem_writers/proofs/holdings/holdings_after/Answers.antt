@@ -1,5 +1,5 @@
 use Rattle.std.proofs.Common.{◌≡◌, ℕ, List, Option, length, sym, ◌∙◌, ap, subst}
-use Rattle.sem_msg.specs.Setup.{Setup, IsSetup}
+use Rattle.sem_msg.specs.Setup.{Setup}
 use Rattle.sem_msg.specs.declared.entry.Entry.{Entry}
 use Rattle.sem_access.specs.Accesses.{accesses}
 use Rattle.sem_access.specs.LastWrites.{is_write_at, greatest_entry, last_write}
@@ -13,7 +13,7 @@ use Rattle.sem_writers.proofs.holdings.holdings_after.Goals as goal
 pub followed-requires : goal.followed-requires
 followed-requires c =
     subst AreInOrder (sym (c.as_slice.ensures ∙ c.in_ok-list.ensures))
-    (in-order c.args.setup.now (subst IsSetup c.setup.view_is c.setup.invariant) c.args.journal.now.entries c.requires)
+    (in-order c.args.setup.now c.keeps_its_rules.ensures c.args.journal.now.entries c.requires)
 
 -- memory tells the last write of each address
 pub returns-clause-memory : goal.returns-clause-memory

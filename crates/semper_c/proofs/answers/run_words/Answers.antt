@@ -1,4 +1,4 @@
-use Rattle.std.proofs.Common.{rules, ◌≡◌, Some, [], ◌∷◌}
+use Rattle.std.proofs.Common.{rules, ◌≡◌, [], ◌∷◌}
 use Rattle.semper_c.proofs.Telling.{run-asked}
 use Rattle.semper_c.proofs.answers.run_words.Goals as goal
 

@@ -1,6 +1,5 @@
-use Rattle.std.proofs.Common.{Result, Ok, Err, subst}
+use Rattle.std.proofs.Common.{Result, Ok, Err}
 use Rattle.std.specs.Prelude.{OnOk}
-use Rattle.sem_msg.specs.Setup.{IsSetup}
 use Rattle.sem_mem.specs.declared.account.Account.{Account}
 use Rattle.sem_mem.proofs.Accounting.{account-same, account-next, next-fits, next-newer}
 use Rattle.sem_mem.proofs.account.Account.after.Goals as goal
@@ -11,21 +10,21 @@ on-ok (Ok v) f a b c = f a b c
 on-ok (Err e) f a b c = tt
 
 pub take_in-requires-clause-fits : goal.take_in-requires-clause-fits
-take_in-requires-clause-fits c = next-fits c.args.setup.now (subst IsSetup c.setup.view_is c.setup.invariant) c.args.past.now c.args.entry.now
+take_in-requires-clause-fits c = next-fits c.args.setup.now c.keeps_its_rules.ensures c.args.past.now c.args.entry.now
     c.requires.schedule c.args.self.now c.requires.expected c.in-Some.access c.in-Some.is
 
 pub take_in-requires-clause-newer : goal.take_in-requires-clause-newer
-take_in-requires-clause-newer c = next-newer c.args.setup.now (subst IsSetup c.setup.view_is c.setup.invariant) c.args.past.now c.args.entry.now
+take_in-requires-clause-newer c = next-newer c.args.setup.now c.keeps_its_rules.ensures c.args.past.now c.args.entry.now
     c.requires.schedule c.args.self.now c.requires.expected c.in-Some.access c.in-Some.is
 
 pub returns-in-Some : goal.returns-in-Some
 returns-in-Some c =
     let new : Account = record { memory = c.take_in.new.memory; lines = c.take_in.new.out; next = c.args.self.now.next } in
     on-ok c.take_in.result
-    (account-next c.args.setup.now (subst IsSetup c.setup.view_is c.setup.invariant) c.args.past.now c.args.entry.now c.requires.schedule c.args.self.now
+    (account-next c.args.setup.now c.keeps_its_rules.ensures c.args.past.now c.args.entry.now c.requires.schedule c.args.self.now
     c.requires.expected c.in-Some.access c.in-Some.is new)
     c.take_in.ensures.memory c.take_in.ensures.newest c.take_in.ensures.text
 
 pub returns-in-None : goal.returns-in-None
-returns-in-None c = account-same c.args.setup.now (subst IsSetup c.setup.view_is c.setup.invariant) c.args.past.now c.args.entry.now c.requires.schedule
+returns-in-None c = account-same c.args.setup.now c.keeps_its_rules.ensures c.args.past.now c.args.entry.now c.requires.schedule
     c.args.self.now c.requires.expected c.in-None.is

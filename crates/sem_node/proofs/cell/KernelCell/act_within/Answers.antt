@@ -60,4 +60,5 @@ returns-clause-told g c =
     c.take-fabric.result
     c.self.invariant.0 c.enabled.ensures c.if-not-enabled.false c.in_ok-room.ensures.ok c.take-fabric.ensures.pass c.take-fabric.ensures.entries
     c.take-fabric.ensures.whole
-    c.turn_step-tried.new.kernel c.turn_step-tried.new.fabric q c.give_back.ensures (has_moved (result_ok c.turn_step-tried.result.linked)) c.turn_step-tried.ensures.tried))
+    c.turn_step-tried.new.kernel c.turn_step-tried.new.fabric q c.give_back.ensures
+    (has_moved (result_ok c.turn_step-tried.result.linked)) c.turn_step-tried.ensures.tried))

@@ -1,6 +1,6 @@
-use Rattle.std.proofs.Common.{◌≡◌, ◌<◌, ◌≤◌, arith, [], length, get_or, sym, ◌∙◌, subst}
+use Rattle.std.proofs.Common.{◌<◌, ◌≤◌, arith, length, sym, ◌∙◌, subst}
 use Rattle.std.proofs.lemmas.List.{length-map}
-use Rattle.sem_numbering.specs.Nodes.{Node, HasNoNode}
+use Rattle.sem_numbering.specs.Nodes.{HasNoNode}
 use Rattle.sem_numbering.proofs.Children.{Others, lists, missing, none-so, read}
 use Rattle.sem_numbering.proofs.parts.PartTree.find.Goals as goal
 

@@ -1,7 +1,6 @@
-use Rattle.std.proofs.Common.{◌≡◌, ap, subst, sym, ◌∙◌}
+use Rattle.std.proofs.Common.{◌≡◌, ap, sym, ◌∙◌}
 use Rattle.std.specs.Option.{option_map, option_map_or}
 use Rattle.sem_key.specs.Capability.{Capability}
-use Rattle.sem_msg.specs.Setup.{IsSetup}
 use Rattle.sem_msg.specs.Lookups.{owner_of}
 use Rattle.sem_machine.specs.Sides.{cap}
 use Rattle.sem_machine.specs.Machine.{World, side}
@@ -19,6 +18,6 @@ returns-clause-seen c =
       | in-Some w ↦ w.self-is ∙ ap (λ o. option_map_or Unmarked o No) (sym w.in-Some.is)
       | in-None w ↦ w.self-is ∙ ap (λ o. option_map_or Unmarked o No) (sym w.in-None.is)
     ] in
-    start-seen T (subst IsSetup c.setup.view_is c.setup.invariant) k c.args.self.now.count c.match-held_selector.self c.held_selector.result
+    start-seen T c.keeps_its_rules.ensures k c.args.self.now.count c.match-held_selector.self c.held_selector.result
     (c.held_selector.ensures ∙ ap (λ (W : World). option_map (λ (x : Capability). x.selector) (cap (side W (owner_of T k)) k)) c.requires)
     there

@@ -1,4 +1,4 @@
-use Rattle.std.proofs.Common.{refl, subst, ap, ◌∙◌}
+use Rattle.std.proofs.Common.{refl, ap, ◌∙◌}
 use Rattle.sem_msg.specs.Setup.{Setup, IsSetup}
 use Rattle.sem_msg.specs.declared.entry.Entry.{Entry}
 use Rattle.sem_story.specs.declared.stages.Stage.{Stage}
@@ -10,7 +10,7 @@ use Rattle.sem_story.proofs.walks.Walk.go_on.Goals as goal
 pub returns : goal.returns
 returns c = λ J before later runs parts number after.
     let T : Setup = c.args.setup.now in
-    let valid : IsSetup T = subst IsSetup c.setup.view_is c.setup.invariant in
+    let valid : IsSetup T = c.keeps_its_rules.ensures in
     let e : Entry = c.args.entry.now in
     let old : Walk = c.args.self.now in
     walked T before e c.args.key old _ (record { number = c.args.number; stage = c.stage_after-self.result }) c.note_grant.new.rows.items

@@ -1,4 +1,4 @@
-use Rattle.std.proofs.Common.{◌≡◌, [], refl, subst, ap, ◌∙◌, arith}
+use Rattle.std.proofs.Common.{◌≡◌, [], refl, ap, ◌∙◌, arith}
 use Rattle.sem_msg.specs.Setup.{Setup, IsSetup}
 use Rattle.sem_msg.specs.Lookups.{owner_of}
 use Rattle.sem_machine.specs.Machine.{side, start}
@@ -11,7 +11,7 @@ use Rattle.sem_story.proofs.walks.Walk.start.Goals as goal
 pub returns : goal.returns
 returns c =
     let T : Setup = c.args.setup.now in
-    let valid : IsSetup T = subst IsSetup c.setup.view_is c.setup.invariant in
+    let valid : IsSetup T = c.keeps_its_rules.ensures in
     let told = stage-first T c.args.key (c.lives_go_on.ensures.first T)
     (c.lives_tell_where_keys_are.ensures.told T valid [] (schedule-empty T [] refl) c.args.key 0 (omega arith)) in
     let stage : c.seen_at_home-stage.result ≡ stage_in T (start T) c.args.key = c.seen_at_home-stage.ensures
