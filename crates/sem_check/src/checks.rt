@@ -9,7 +9,7 @@ ghost use Rattle.sem_check.specs.Verdicts.{TellsDifference, TellsNext};
 use crate::entries::make_entry;
 use crate::faults::CheckError;
 use crate::follows::{Difference, follow};
-use crate::watch::{Unwatched, Watch};
+use crate::watch::{Noting, Unwatched, Watch};
 use sem_kernel::World;
 use sem_key::OutOfMemory;
 use sem_msg::{Entry, Journal, Setup};
@@ -26,7 +26,7 @@ pub fn check(alloc: Global, setup: &Setup, journal: &Journal) -> Result<World, C
     ensures few { OnOk result
         (length journal.now.entries ≤ 21 * call_count setup.now + kill_count setup.now) }
 {
-    check_watched(alloc, setup, journal, &mut Unwatched)
+    check_watched(alloc, setup, journal, &mut Noting(Unwatched))
 }
 
 /// As `check`, while `watch` sees every world on the way.

@@ -12,6 +12,7 @@ mod watch;
 
 pub use checks::{check, check_watched};
 pub use faults::CheckError;
+pub use follows::{Difference, follow};
 pub use laws::a_journal_has_one_verdict;
 pub use replays::{first_schedule, replay};
-pub use watch::{Unwatched, Watch};
+pub use watch::{Note, Noting, Unwatched, Watch};

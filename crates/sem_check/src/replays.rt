@@ -5,7 +5,7 @@ ghost use Rattle.sem_kernel.specs.Standing.{StandsAt};
 ghost use Rattle.sem_check.specs.Replays.{IsLongestSchedule, IsLongestPrefix};
 
 use crate::follows::follow;
-use crate::watch::Unwatched;
+use crate::watch::{Noting, Unwatched};
 use sem_fabric::Fabric;
 use sem_kernel::{Kernel, World, advance, boot};
 use sem_key::OutOfMemory;
@@ -32,7 +32,7 @@ fn schedule_length(alloc: Global, setup: &Setup, entries: &[Entry]) -> Result<us
     ensures { IfOk result (IsLongestSchedule setup.now entries.now) }
 {
     let mut world = World::boot(alloc, setup)?;
-    match follow(setup, &mut world, entries, &mut Unwatched)? {
+    match follow(setup, &mut world, entries, &mut Noting(Unwatched))? {
         None => Ok(entries.len()),
         Some(difference) => Ok(difference.entry),
     }

@@ -58,11 +58,24 @@ pub trait Watch {
         ensures same { subject self.new ≡ subject self.old };
 }
 
-/// Gathers nothing.
-#[derive(Debug, Drop)]
-pub struct Unwatched;
+/// Is told the entries of a journal that a world follows. Nothing is promised about what it does
+/// with them.
+pub trait Note {
+    /// Is told the entry after the past ones, and the world after it.
+    fn note(
+        &mut self,
+        setup: &Setup,
+        world: &World,
+        past: &[Entry],
+        entry: &Entry,
+    ) -> Result<(), OutOfMemory>;
+}
 
-impl Watch for Unwatched {
+/// Watches for what is told the entries, and gathers nothing that it promises.
+#[derive(Debug, Drop)]
+pub struct Noting<N: Note>(pub N);
+
+impl<N: Note> Watch for Noting<N> {
     type Subject = bool;
 
     ghost subject = { λ _. true };
@@ -87,10 +100,26 @@ impl Watch for Unwatched {
 
     fn after(
         &mut self,
+        setup: &Setup,
+        world: &World,
+        past: &[Entry],
+        next: &Entry,
+    ) -> Result<(), OutOfMemory> {
+        self.0.note(setup, world, past, next)
+    }
+}
+
+/// Does nothing with what it is told.
+#[derive(Debug, Drop)]
+pub struct Unwatched;
+
+impl Note for Unwatched {
+    fn note(
+        &mut self,
         _setup: &Setup,
         _world: &World,
         _past: &[Entry],
-        _next: &Entry,
+        _entry: &Entry,
     ) -> Result<(), OutOfMemory> {
         Ok(())
     }

@@ -1,6 +1,7 @@
 ghost use Rattle.std.specs.Prelude.{◌≡◌, ◌<◌, true, IfSome};
 ghost use Rattle.sem_key.specs.declared.limits.TheConstants.{VPES};
-ghost use Rattle.sem_key.specs.Capability.{capability_of};
+ghost use Rattle.sem_key.specs.Capability.{Capability};
+ghost use Rattle.sem_key.specs.ObjectRanges.{IsValidObject, object_kind};
 ghost use Rattle.sem_msg.specs.Lookups.{is_declared};
 ghost use Rattle.sem_msg.specs.Message.{IsDelegable};
 ghost use Rattle.sem_msg.specs.Outboxes.{CanSend, HasSent};
@@ -12,10 +13,10 @@ ghost use Rattle.sem_machine.specs.Calls.{delegate_row, offer_made};
 ghost use Rattle.sem_machine.specs.Stores.{owning, with_caps_vpes_parks_outs, with_vpes_parks_outs};
 ghost use Rattle.sem_delegate.specs.Delegating.{IsOfKind};
 
+use crate::delegations::Delegation;
 use crate::messages::request;
 use crate::refusals::delegate_refusal;
 use sem_caps::Caps;
-use sem_key::Cap;
 use sem_msg::{Ask, Code, Outboxes, Outcome, Parked, Setup};
 use sem_park::Park;
 use sem_vpe::Vpes;
@@ -53,7 +54,13 @@ pub fn delegate_call(
     let Some(cap) = vpes.held_key(vpe, src).and_then(|key| caps.get(key)) else {
         return Outcome::answered(Code::NoCap);
     };
-    make_offer(setup, kernel, vpe, other, dst, cap, vpes, park, outs);
+    let delegation = Delegation {
+        vpe: other,
+        parent: cap.key,
+        object: cap.object,
+        sel: dst,
+    };
+    make_offer(setup, kernel, vpe, delegation, vpes, park, outs);
     Outcome::nothing()
 }
 
@@ -62,27 +69,32 @@ fn make_offer(
     setup: &Setup,
     kernel: u32,
     vpe: u16,
-    other: u16,
-    dst: u8,
-    cap: &Cap,
+    delegation: Delegation,
     vpes: &mut Vpes,
     park: &mut Park,
     outs: &mut Outboxes,
 )
     requires home { AreOurs setup.now kernel vpes.old }
     requires vpe { vpe < VPES }
-    requires asked { is_declared setup.now other ≡ true }
-    requires valid { IsOfKind (capability_of cap.now) }
-    requires delegable { IsDelegable cap.now.key.kind }
+    requires asked { is_declared setup.now delegation.vpe ≡ true }
+    requires object { IsValidObject delegation.object }
+    requires kind { delegation.parent.kind ≡ object_kind delegation.object }
+    requires delegable { IsDelegable delegation.parent.kind }
     requires sends { CanSend setup.now outs.old }
-    ensures row { (s : Side) →
+    ensures row { (p : Capability) (s : Side) → p.key ≡ delegation.parent →
+        p.object ≡ delegation.object →
         unshown (with_vpes_parks_outs vpes.new.rows park.new outs.new.boxes s)
-        ≡ offer_made setup.now kernel vpe other dst (capability_of cap.now)
+        ≡ offer_made setup.now kernel vpe delegation.vpe delegation.sel p
         (with_vpes_parks_outs vpes.old.rows park.old outs.old.boxes s) }
     ensures ours { vpes.new.ours ≡ vpes.old.ours }
     ensures left { HasSent setup.now outs.old outs.new }
 {
-    let (parent, object) = (cap.key, cap.object);
+    let Delegation {
+        vpe: other,
+        parent,
+        object,
+        sel,
+    } = delegation;
     park.park(vpe, Parked::DelegateWait { parent });
     let owner = setup.declared_kernel(other);
     if owner == kernel {
@@ -91,10 +103,10 @@ fn make_offer(
             Ask::Delegate {
                 parent,
                 object,
-                sel: dst,
+                sel,
             },
         );
     } else {
-        outs.send(owner, request(parent, object, other, dst));
+        outs.send(owner, request(parent, object, other, sel));
     }
 }

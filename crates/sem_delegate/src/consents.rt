@@ -12,10 +12,10 @@ ghost use Rattle.sem_machine.specs.Upcalls.{ask_decided, delegate_here, parent_t
 ghost use Rattle.sem_delegate.specs.Delegating.{HasRoomFor};
 
 use crate::answers::end_waiting;
+use crate::delegations::Delegation;
 use crate::keys::draw_key;
 use crate::refusals::consent_refusal;
 use sem_caps::Caps;
-use sem_key::{Key, Object};
 use sem_msg::{Code, Consent, Outcome, Parked, Setup};
 use sem_park::Park;
 use sem_vpe::Vpes;
@@ -24,27 +24,31 @@ use sem_vpe::Vpes;
 pub fn decide_here(
     setup: &Setup,
     kernel: u32,
-    vpe: u16,
-    parent: Key,
-    object: Object,
-    sel: u8,
+    delegation: Delegation,
     caps: &mut Caps,
     vpes: &mut Vpes,
     park: &mut Park,
 ) -> Outcome
-    requires here { kernel_of_spec setup.now parent.vpe ≡ kernel }
-    requires declared { is_declared setup.now vpe ≡ true }
-    requires ours { IsOurs vpes.old vpe }
-    requires free { IsNextFree setup.now caps.old.caps vpes.old.rows vpe }
-    requires child_room { HasRoomFor caps.old parent }
+    requires here { kernel_of_spec setup.now delegation.parent.vpe ≡ kernel }
+    requires declared { is_declared setup.now delegation.vpe ≡ true }
+    requires ours { IsOurs vpes.old delegation.vpe }
+    requires free { IsNextFree setup.now caps.old.caps vpes.old.rows delegation.vpe }
+    requires child_room { HasRoomFor caps.old delegation.parent }
     requires spare { 0 < caps.old.spare }
     ensures row { (s : Side) →
         step_of result (installing caps.new.caps vpes.new.rows park.new s)
-        ≡ ask_decided setup.now kernel vpe (DelegateAsk parent object sel)
+        ≡ ask_decided setup.now kernel delegation.vpe
+        (DelegateAsk delegation.parent delegation.object delegation.sel)
         (installing caps.old.caps vpes.old.rows park.old s) }
     ensures ours { vpes.new.ours ≡ vpes.old.ours }
     ensures spare { caps.old.spare ≤ caps.new.spare + 1 }
 {
+    let Delegation {
+        vpe,
+        parent,
+        sel,
+        ..
+    } = delegation;
     let asker = parent.vpe;
     if !park.is_delegate_wait(parent) {
         return Outcome::asked(asker, Consent::Dropped, None);
@@ -57,35 +61,39 @@ pub fn decide_here(
         end_waiting(parent, code.number(), park);
         return Outcome::asked(asker, Consent::Yes, None);
     }
-    take_child(setup, vpe, parent, object, sel, caps, vpes, park)
+    take_child(setup, delegation, caps, vpes, park)
 }
 
 // The VPE takes a child of the capability of a VPE of the same kernel, whose delegate will succeed.
 fn take_child(
     setup: &Setup,
-    vpe: u16,
-    parent: Key,
-    object: Object,
-    sel: u8,
+    delegation: Delegation,
     caps: &mut Caps,
     vpes: &mut Vpes,
     park: &mut Park,
 ) -> Outcome
-    requires declared { is_declared setup.now vpe ≡ true }
-    requires ours { IsOurs vpes.old vpe }
-    requires tests { first_code (parent_tests (cap_of caps.old.caps parent)
-        ++ destination_tests (with_vpes vpes.old.rows no_side) vpe sel) ≡ None }
-    requires free { IsNextFree setup.now caps.old.caps vpes.old.rows vpe }
-    requires child_room { HasRoomFor caps.old parent }
+    requires declared { is_declared setup.now delegation.vpe ≡ true }
+    requires ours { IsOurs vpes.old delegation.vpe }
+    requires tests { first_code (parent_tests (cap_of caps.old.caps delegation.parent)
+        ++ destination_tests (with_vpes vpes.old.rows no_side) delegation.vpe delegation.sel)
+        ≡ None }
+    requires free { IsNextFree setup.now caps.old.caps vpes.old.rows delegation.vpe }
+    requires child_room { HasRoomFor caps.old delegation.parent }
     requires spare { 0 < caps.old.spare }
     ensures row { (s : Side) →
         step_of result (installing caps.new.caps vpes.new.rows park.new s)
-        ≡ asking parent.vpe Yes
-        (delegate_here setup.now vpe parent object sel
+        ≡ asking delegation.parent.vpe Yes
+        (delegate_here setup.now delegation.vpe delegation.parent delegation.object delegation.sel
         (installing caps.old.caps vpes.old.rows park.old s)) }
     ensures ours { vpes.new.ours ≡ vpes.old.ours }
     ensures spare { caps.old.spare ≤ caps.new.spare + 1 }
 {
+    let Delegation {
+        vpe,
+        parent,
+        object,
+        sel,
+    } = delegation;
     let key = draw_key(setup, vpe, parent.kind, vpes);
     caps.link(parent, key);
     caps.insert(key, Some(parent), sel, object);

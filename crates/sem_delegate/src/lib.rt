@@ -6,6 +6,7 @@ mod acks;
 mod answers;
 mod calls;
 mod consents;
+mod delegations;
 mod keys;
 mod messages;
 mod pendings;

@@ -11,6 +11,7 @@ ghost use Rattle.sem_machine.specs.Upcalls.{ask_decided};
 ghost use Rattle.sem_delegate.specs.Delegating.{HasRoomFor, consenting};
 
 use crate::consents::decide_here;
+use crate::delegations::Delegation;
 use crate::pendings::Pendings;
 use crate::preparing::decide_elsewhere;
 use sem_caps::Caps;
@@ -53,11 +54,15 @@ pub fn delegate_upcall(
     ensures caps_spare { caps.old.spare ≤ caps.new.spare + 1 }
     ensures pendings_spare { pendings.old.spare ≤ pendings.new.spare + 1 }
 {
+    let delegation = Delegation {
+        vpe,
+        parent,
+        object,
+        sel,
+    };
     if setup.kernel_of(parent.vpe) == kernel {
-        decide_here(setup, kernel, vpe, parent, object, sel, caps, vpes, park)
+        decide_here(setup, kernel, delegation, caps, vpes, park)
     } else {
-        decide_elsewhere(
-            setup, kernel, vpe, parent, object, sel, vpes, pendings, outs,
-        )
+        decide_elsewhere(setup, kernel, delegation, vpes, pendings, outs)
     }
 }

@@ -22,7 +22,7 @@ use sem_obtain::{
     unlink,
 };
 use sem_own::{
-    Part, bind_call, credit_call, derive_call, gate_call, read_call, send_call, write_call,
+    Gate, Part, bind_call, credit_call, derive_call, gate_call, read_call, send_call, write_call,
 };
 
 impl Stores {
@@ -53,7 +53,7 @@ impl Stores {
                 dst,
                 label,
                 credits,
-            } => gate_call(setup, vpe, src, dst, label, credits, caps, vpes),
+            } => gate_call(setup, vpe, src, dst, Gate { label, credits }, caps, vpes),
             Call::Obtain { dst, vpe: of, src } => obtain_call(
                 setup, kernel, vpe, dst, of, src, vpes, park, outs,
             ),

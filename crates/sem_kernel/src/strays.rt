@@ -1,12 +1,14 @@
 // Which messages are strays.
-ghost use Rattle.std.specs.Prelude.{◌≡◌, true};
+ghost use Rattle.std.specs.Prelude.{◌≡◌, ℕ, true};
 ghost use Rattle.sem_msg.specs.ParkedStates.{is_delegate_wait, is_obtain_wait};
+ghost use Rattle.sem_msg.specs.declared.message.Message.TheVariants.{DelegatePrepared, DelegateReq};
+ghost use Rattle.sem_msg.specs.declared.message.Message.TheVariants.{ObtainOk, ObtainReq};
 ghost use Rattle.sem_machine.specs.Handles.{is_here, lives_without, is_stray as is_stray_spec};
 ghost use Rattle.sem_kernel.specs.KernelStores.{side_of, AreStoresOf};
 
 use crate::stores::Stores;
-use sem_key::Key;
-use sem_msg::{Message, Setup};
+use sem_key::{Key, Object, Place};
+use sem_msg::{Message, Setup, Target};
 
 impl Stores {
     // Whether the message is a stray: it names a VPE that is not declared, or is for another
@@ -17,23 +19,13 @@ impl Stores {
     {
         match message {
             Message::ObtainReq { place, target } => {
-                !setup.is_declared_at(place.pe, place.vpe)
-                    || !setup.is_target_declared(target)
-                    || setup.kernel_of(target.vpe()) != kernel
-                    || setup.kernel_of(place.vpe) == kernel
+                self.is_stray_obtain(setup, kernel, place, target)
             }
             Message::ObtainOk {
                 parent,
                 key,
                 object,
-            } => {
-                !setup.is_key_declared(parent)
-                    || !setup.is_key_declared(key)
-                    || !setup.is_object_declared(object)
-                    || setup.kernel_of(key.vpe) != kernel
-                    || setup.kernel_of(parent.vpe) == kernel
-                    || self.is_unasked(setup, kernel, key.vpe, key.number)
-            }
+            } => self.is_stray_grant(setup, kernel, parent, key, object),
             Message::ObtainNo { place, .. } => {
                 !setup.is_declared_at(place.pe, place.vpe)
                     || setup.kernel_of(place.vpe) != kernel
@@ -44,18 +36,9 @@ impl Stores {
                 object,
                 vpe,
                 ..
-            } => {
-                !setup.is_key_declared(parent)
-                    || !setup.is_object_declared(object)
-                    || setup.kernel_of(*vpe) != kernel
-                    || setup.kernel_of(parent.vpe) == kernel
-            }
+            } => self.is_stray_delegate(setup, kernel, parent, object, *vpe),
             Message::DelegatePrepared { parent, key } => {
-                !setup.is_key_declared(parent)
-                    || !setup.is_key_declared(key)
-                    || setup.kernel_of(parent.vpe) != kernel
-                    || setup.kernel_of(key.vpe) == kernel
-                    || self.is_unoffered(setup, kernel, parent)
+                self.is_stray_acceptance(setup, kernel, parent, key)
             }
             Message::DelegateNo { parent, .. } => {
                 !setup.is_key_declared(parent)
@@ -72,6 +55,71 @@ impl Stores {
             | Message::RevokeDone { .. }
             | Message::Unlink { .. } => false,
         }
+    }
+
+    // Whether the request for a capability is a stray.
+    fn is_stray_obtain(&self, setup: &Setup, kernel: u32, place: &Place, target: &Target) -> bool
+        requires { AreStoresOf setup.now kernel self.now }
+        ensures { result ≡ is_stray_spec setup.now kernel (side_of self.now)
+            (ObtainReq place.now target.now) }
+    {
+        !setup.is_declared_at(place.pe, place.vpe)
+            || !setup.is_target_declared(target)
+            || setup.kernel_of(target.vpe()) != kernel
+            || setup.kernel_of(place.vpe) == kernel
+    }
+
+    // Whether the grant of a key is a stray.
+    fn is_stray_grant(
+        &self,
+        setup: &Setup,
+        kernel: u32,
+        parent: &Key,
+        key: &Key,
+        object: &Object,
+    ) -> bool
+        requires { AreStoresOf setup.now kernel self.now }
+        ensures { result ≡ is_stray_spec setup.now kernel (side_of self.now)
+            (ObtainOk parent.now key.now object.now) }
+    {
+        !setup.is_key_declared(parent)
+            || !setup.is_key_declared(key)
+            || !setup.is_object_declared(object)
+            || setup.kernel_of(key.vpe) != kernel
+            || setup.kernel_of(parent.vpe) == kernel
+            || self.is_unasked(setup, kernel, key.vpe, key.number)
+    }
+
+    // Whether the offer to a VPE is a stray, at whichever selector its child is to stand.
+    fn is_stray_delegate(
+        &self,
+        setup: &Setup,
+        kernel: u32,
+        parent: &Key,
+        object: &Object,
+        vpe: u16,
+    ) -> bool
+        requires { AreStoresOf setup.now kernel self.now }
+        ensures { (sel : ℕ) → result ≡ is_stray_spec setup.now kernel (side_of self.now)
+            (DelegateReq parent.now object.now vpe sel) }
+    {
+        !setup.is_key_declared(parent)
+            || !setup.is_object_declared(object)
+            || setup.kernel_of(vpe) != kernel
+            || setup.kernel_of(parent.vpe) == kernel
+    }
+
+    // Whether the acceptance of an offer is a stray.
+    fn is_stray_acceptance(&self, setup: &Setup, kernel: u32, parent: &Key, key: &Key) -> bool
+        requires { AreStoresOf setup.now kernel self.now }
+        ensures { result ≡ is_stray_spec setup.now kernel (side_of self.now)
+            (DelegatePrepared parent.now key.now) }
+    {
+        !setup.is_key_declared(parent)
+            || !setup.is_key_declared(key)
+            || setup.kernel_of(parent.vpe) != kernel
+            || setup.kernel_of(key.vpe) == kernel
+            || self.is_unoffered(setup, kernel, parent)
     }
 
     // Whether the VPE, one of this kernel, lives and no asking call of it waits with that number.

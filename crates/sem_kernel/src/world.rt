@@ -105,7 +105,7 @@ impl World {
         )
     }
 
-    /// Lets the event do_event, and returns the entry that it makes. An event that is not enabled is
+    /// Lets the event happen, and returns the entry that it makes. An event that is not enabled is
     /// refused. After a refusal, or if memory is refused, the world is as before.
     pub fn step(&mut self, event: Event) -> Result<Entry, StepError>
         ensures not_enabled { IsErrOf result StepError.NotEnabled
@@ -122,7 +122,7 @@ impl World {
         do_event(&self.setup, &mut self.kernels, &mut self.fabric, event)
     }
 
-    /// Lets the event do_event, an enabled one. If memory is refused, the world is as before.
+    /// Lets the event happen, an enabled one. If memory is refused, the world is as before.
     pub fn advance(&mut self, event: Event) -> Result<(), OutOfMemory>
         requires { is_enabled_spec self.old.setup self.old.world event ≡ true }
         ensures ok { OnOk result (self.new ≡ stepped_value self.old event) }

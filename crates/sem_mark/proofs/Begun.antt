@@ -11,18 +11,25 @@ use Rattle.sem_key.specs.CapList.{link_count}
 use Rattle.sem_key.specs.Region.{has_key, region, linked_from, children_of}
 use Rattle.sem_msg.specs.declared.code.Code.TheVariants.{NoCap}
 use Rattle.sem_msg.specs.declared.message.Message.TheVariants.{RevokeDone, RevokeReq}
+use Rattle.sem_msg.specs.declared.state.Parked.{Parked}
 use Rattle.sem_msg.specs.declared.state.Parked.TheVariants.{RevokeWait}
 use Rattle.sem_msg.specs.declared.state.Up.TheVariants.{Remote}
 use Rattle.sem_msg.specs.JobRows.{if_done, job_of}
+use Rattle.sem_msg.specs.Outboxes.{OutboxList}
+use Rattle.sem_msg.specs.ParkedStates.{parked_as as states_parked}
 use Rattle.sem_msg.specs.Setup.{Setup}
+use Rattle.sem_caps.specs.CapStore.{CapStore}
+use Rattle.sem_dtu.specs.EndpointTable.{EndpointTable}
+use Rattle.sem_vpe.specs.VpeTable.{VpeTable}
 use Rattle.sem_machine.specs.Sides.{Side, cap, own, parked_as, send}
 use Rattle.sem_machine.specs.Steps.{answer, cutting, first_code, unshown}
 use Rattle.sem_machine.specs.Calls.{clear_row, own_tests, revoke_row, with_held}
 use Rattle.sem_machine.specs.Handles.{handle_row}
-use Rattle.sem_machine.specs.Revokes.{begin, clear_begun, finish, finished, obtain_cancelled, request_begun, revoke_begun, revoke_requested, settled}
+use Rattle.sem_machine.specs.Revokes.{begin, clear_begun, finish, finished, obtain_cancelled, opened, request_begun, revoke_begun, revoke_requested, settled}
 use Rattle.sem_machine.specs.Revokes.{waiter_added, with_up}
+use Rattle.sem_machine.specs.Stores.{with_parks, with_vpes}
 use Rattle.sem_jobs.specs.JobStore.{JobStore}
-use Rattle.sem_mark.specs.Marking.{HasBegun}
+use Rattle.sem_mark.specs.Marking.{HasBegun, beginning, revoking}
 use Rattle.sem_machine.proofs.FirstCodes.{unless-first}
 use Rattle.sem_machine.proofs.Lengths.{key_set-shorter}
 
@@ -41,6 +48,22 @@ begins-nothing T i v keep root jobs jobs' before after = search rules
 pub begun : (T : Setup) (i next : ℕ) (o : Option ℕ) (x y : Side) → option_and_then (job_of x.jobs) o ≡ if_done (job_of x.jobs next) → x ≡ y →
     finished T i o x ≡ settled T i next y
 begun T i next o x y done same = ap (λ p. finish T i (length x.jobs) p x) done ∙ ap (settled T i next) same
+
+-- a call that opened a job, for which its VPE waits
+module _ (T : Setup) (i v : ℕ) (keep : Bool) (k : KeyName) (caps caps' : CapStore) (vpes : VpeTable) (dtus dtus' : EndpointTable) (jobs jobs' : JobStore)
+    (park park' : List (Option Parked)) (outs outs' : OutboxList) (job : ℕ)
+    (opens : (s : Side) → beginning caps' dtus' jobs' outs' s ≡ opened T i k None (v ∷ []) keep (beginning caps dtus jobs outs s))
+    (waits : park' ≡ states_parked park v (RevokeWait job)) (id : job ≡ jobs.next) (s : Side) where
+  pub call-opened : revoking caps' vpes dtus' jobs' park' outs' s
+      ≡ opened T i k None (v ∷ []) keep (parked_as v (RevokeWait jobs.next) (revoking caps vpes dtus jobs park outs s))
+  call-opened = opens (with_vpes vpes.rows (with_parks park' s))
+      ∙ ap (λ (ps : List (Option Parked)). opened T i k None (v ∷ []) keep (revoking caps vpes dtus jobs ps outs s))
+      (waits ∙ ap (λ j. states_parked park v (RevokeWait j)) id)
+
+  pub call-begun : (o : Option ℕ) → option_and_then (job_of jobs'.jobs) o ≡ if_done (job_of jobs'.jobs job) →
+      finished T i o (revoking caps' vpes dtus' jobs' park' outs' s)
+      ≡ begin T i k None (v ∷ []) keep (parked_as v (RevokeWait jobs.next) (revoking caps vpes dtus jobs park outs s))
+  call-begun o done = begun T i jobs.next o (revoking caps' vpes dtus' jobs' park' outs' s) _ (done ∙ ap (λ j. if_done (job_of jobs'.jobs j)) id) call-opened
 
 -- a region has no more children than there are links
 linked-few : (p : Capability → Bool) (caps : List Capability) → length (flat_map (λ (c : Capability). c.children) (filter p caps)) ≤ link_count caps

@@ -21,12 +21,6 @@ abbrev pub beginning : CapStore → EndpointTable → JobStore → OutboxList �
 beginning caps dtus jobs outs s =
     with_caps caps.caps (with_endpoints dtus.rows (with_jobs jobs.jobs jobs.next (with_outs outs.boxes s)))
 
--- the side with these capabilities, endpoints, jobs, waiting calls and outboxes
-abbrev pub pausing : CapStore → EndpointTable → JobStore → List (Option Parked) → OutboxList → Side → Side
-pausing caps dtus jobs park outs s =
-    with_caps caps.caps
-    (with_endpoints dtus.rows (with_jobs jobs.jobs jobs.next (with_parks park (with_outs outs.boxes s))))
-
 -- the side with these capabilities, VPEs, endpoints, jobs, waiting calls and outboxes
 abbrev pub revoking : CapStore → VpeTable → EndpointTable → JobStore → List (Option Parked) → OutboxList → Side → Side
 revoking caps vpes dtus jobs park outs s =

@@ -9,7 +9,7 @@ ghost use Rattle.sem_machine.specs.Sides.{Side};
 ghost use Rattle.sem_machine.specs.Revokes.{begin, finished, opened};
 ghost use Rattle.sem_mark.specs.Marking.{beginning, HasSpace, LeadsHome};
 
-use crate::opening::{done_job, open_job};
+use crate::opening::{NewJob, done_job, open_job};
 use sem_caps::Caps;
 use sem_dtu::Dtus;
 use sem_jobs::{Jobs, Scratch};
@@ -59,8 +59,13 @@ pub fn begin_revoke(
     ensures space { HasSpace caps.new scratch.new }
     ensures gone { vec_capacity scratch.new.gone ≡ vec_capacity scratch.old.gone }
 {
-    let job = open_job(
-        setup, kernel, root, up, waiter, false, caps, dtus, jobs, outs, scratch,
-    );
+    let wanted = NewJob {
+        kernel,
+        root,
+        up,
+        waiter,
+        keep: false,
+    };
+    let job = open_job(setup, wanted, caps, dtus, jobs, outs, scratch);
     done_job(jobs, job)
 }

@@ -1,24 +1,21 @@
-ghost use Rattle.std.specs.Prelude.{◌≡◌, ◌+◌, ◌<◌, ◌≤◌, true, false, [], ◌∷◌, None, Some, All};
-ghost use Rattle.std.specs.Prelude.{IfSome, IsSome, vec_capacity};
+ghost use Rattle.std.specs.Prelude.{◌≡◌, ◌<◌, true, false, IfSome, IsSome};
+ghost use Rattle.std.specs.Option.{option_and_then};
 ghost use Rattle.sem_key.specs.declared.limits.TheConstants.{VPES};
-ghost use Rattle.sem_key.specs.CapList.{link_count};
 ghost use Rattle.sem_msg.specs.declared.state.Parked.TheVariants.{RevokeWait};
-ghost use Rattle.sem_msg.specs.JobRows.{job_of};
-ghost use Rattle.sem_msg.specs.Outboxes.{HasBoxes};
-ghost use Rattle.sem_machine.specs.Sides.{Side, no_side, own, parked_as};
+ghost use Rattle.sem_msg.specs.JobRows.{if_done, job_of};
+ghost use Rattle.sem_msg.specs.ParkedStates.{parked_as};
+ghost use Rattle.sem_machine.specs.Sides.{Side, no_side, own};
 ghost use Rattle.sem_machine.specs.Steps.{step_of};
 ghost use Rattle.sem_machine.specs.Calls.{clear_row, revoke_row};
-ghost use Rattle.sem_machine.specs.Revokes.{begin, finished, opened};
+ghost use Rattle.sem_machine.specs.Revokes.{finished};
 ghost use Rattle.sem_machine.specs.Stores.{owning};
-ghost use Rattle.sem_mark.specs.Marking.{CanBegin, HasBegun, HasRoomLeft, HasSpace, LeadsHome};
-ghost use Rattle.sem_mark.specs.Marking.{pausing, revoking};
+ghost use Rattle.sem_mark.specs.Marking.{CanBegin, HasBegun, HasRoomLeft, revoking};
 
-use crate::opening::{done_job, open_job};
+use crate::opening::{NewJob, done_job, open_job};
 use crate::owned::own_refusal;
 use sem_caps::Caps;
 use sem_dtu::Dtus;
 use sem_jobs::{Jobs, Scratch};
-use sem_key::Key;
 use sem_msg::{Code, Outboxes, Outcome, Parked, Setup};
 use sem_park::Park;
 use sem_vpe::Vpes;
@@ -65,10 +62,15 @@ pub fn revoke_call(
         park.park(vpe, Parked::RevokeWait { job });
         return (Outcome::cut(key), None);
     }
-    let done = begin_call(
-        setup, kernel, key, vpe, false, caps, dtus, jobs, park, outs, scratch,
-    );
-    (Outcome::cut(key), done)
+    let wanted = NewJob {
+        kernel,
+        root: key,
+        up: None,
+        waiter: Some(vpe),
+        keep: false,
+    };
+    let begun = open_job(setup, wanted, caps, dtus, jobs, outs, scratch);
+    (Outcome::cut(key), wait_for(begun, vpe, jobs, park))
 }
 
 /// The call `clear`: the VPE revokes everything made from the capability at its selector, keeps the
@@ -109,66 +111,26 @@ pub fn clear_call(
         return (Outcome::answered(Code::NoCap), None);
     };
     let key = cap.key;
-    let done = begin_call(
-        setup, kernel, key, vpe, true, caps, dtus, jobs, park, outs, scratch,
-    );
-    (Outcome::cut(key), done)
+    let wanted = NewJob {
+        kernel,
+        root: key,
+        up: None,
+        waiter: Some(vpe),
+        keep: true,
+    };
+    let begun = open_job(setup, wanted, caps, dtus, jobs, outs, scratch);
+    (Outcome::cut(key), wait_for(begun, vpe, jobs, park))
 }
 
-// A job begins for the root, and the VPE waits for it. Returns its id if it is to finish now.
-fn begin_call(
-    setup: &Setup,
-    kernel: u32,
-    root: Key,
-    vpe: u16,
-    keep: bool,
-    caps: &mut Caps,
-    dtus: &mut Dtus,
-    jobs: &mut Jobs,
-    park: &mut Park,
-    outs: &mut Outboxes,
-    scratch: &mut Scratch,
-) -> Option<u32>
-    requires vpe { vpe < VPES }
-    requires job { 0 < jobs.old.spare }
-    requires ids { jobs.old.next < 4294967295 }
-    requires boxes { HasBoxes setup.now outs.old }
-    requires owners { All (LeadsHome setup.now) caps.old.caps }
-    requires spare { link_count caps.old.caps ≤ outs.old.spare }
-    requires space { HasSpace caps.old scratch.old }
-    ensures row { (s : Side) →
-        finished setup.now kernel result (pausing caps.new dtus.new jobs.new park.new outs.new s)
-        ≡ begin setup.now kernel root None (vpe ∷ []) keep
-        (parked_as vpe (RevokeWait jobs.old.next)
-        (pausing caps.old dtus.old jobs.old park.old outs.old s)) }
-    ensures opened { (s : Side) →
-        pausing caps.new dtus.new jobs.new park.new outs.new s
-        ≡ opened setup.now kernel root None (vpe ∷ []) keep
-        (parked_as vpe (RevokeWait jobs.old.next)
-        (pausing caps.old dtus.old jobs.old park.old outs.old s)) }
-    ensures there { IfSome result (λ j. IsSome (job_of jobs.new.jobs j)) }
-    ensures done { IfSome result (λ j. (j ≡ jobs.old.next)) }
-    ensures boxes { HasBoxes setup.now outs.new }
-    ensures spare { outs.old.spare ≤ outs.new.spare + link_count caps.old.caps }
-    ensures job_spare { jobs.old.spare ≤ jobs.new.spare + 1 }
-    ensures caps_spare { caps.new.spare ≡ caps.old.spare }
-    ensures dtus { dtus.new.ours ≡ dtus.old.ours }
-    ensures space { HasSpace caps.new scratch.new }
-    ensures gone { vec_capacity scratch.new.gone ≡ vec_capacity scratch.old.gone }
+// The VPE waits for the job that it began. Returns the id of the job if it is to finish now.
+fn wait_for(begun: u32, vpe: u16, jobs: &Jobs, park: &mut Park) -> Option<u32>
+    requires { vpe < VPES }
+    ensures park { park.new ≡ parked_as park.old vpe (RevokeWait begun) }
+    ensures done { option_and_then (job_of jobs.now.jobs) result
+        ≡ if_done (job_of jobs.now.jobs begun) }
+    ensures there { IfSome result (λ j. IsSome (job_of jobs.now.jobs j)) }
+    ensures same { IfSome result (λ j. (j ≡ begun)) }
 {
-    let begun = open_job(
-        setup,
-        kernel,
-        root,
-        None,
-        Some(vpe),
-        keep,
-        caps,
-        dtus,
-        jobs,
-        outs,
-        scratch,
-    );
     park.park(vpe, Parked::RevokeWait { job: begun });
     done_job(jobs, begun)
 }

@@ -24,44 +24,59 @@ use sem_jobs::{Jobs, Scratch};
 use sem_key::Key;
 use sem_msg::{Outboxes, Setup, Up};
 
-// Opens a job for the root, with the job and the VPE that wait for it, if any, and returns its id.
-// The region is marked and unbound, and each child is requested or adopted.
-pub fn open_job(
+/// A job to be opened at a kernel: its root, the job and the VPE that wait for it, if any, and
+/// whether it keeps its root.
+#[derive(Clone, Copy, Debug)]
+pub(crate) struct NewJob {
+    pub kernel: u32,
+    pub root: Key,
+    pub up: Option<Up>,
+    pub waiter: Option<u16>,
+    pub keep: bool,
+}
+
+// Opens the job, and returns its id. The region of its root is marked and unbound, and each child
+// is requested or adopted.
+pub(crate) fn open_job(
     setup: &Setup,
-    kernel: u32,
-    root: Key,
-    up: Option<Up>,
-    waiter: Option<u16>,
-    keep: bool,
+    wanted: NewJob,
     caps: &mut Caps,
     dtus: &mut Dtus,
     jobs: &mut Jobs,
     outs: &mut Outboxes,
     scratch: &mut Scratch,
 ) -> u32
-    requires waiter { IfSome waiter (λ v. v < VPES) }
-    requires keep { keep ≡ true → up ≡ None }
+    requires waiter { IfSome wanted.waiter (λ v. v < VPES) }
+    requires keep { wanted.keep ≡ true → wanted.up ≡ None }
     requires job { 0 < jobs.old.spare }
     requires ids { jobs.old.next < 4294967295 }
     requires boxes { HasBoxes setup.now outs.old }
     requires owners { All (LeadsHome setup.now) caps.old.caps }
-    requires spare { length (children_of caps.old.caps (region caps.old.caps root))
+    requires spare { length (children_of caps.old.caps (region caps.old.caps wanted.root))
         ≤ outs.old.spare }
     requires space { HasSpace caps.old scratch.old }
     ensures id { result ≡ jobs.old.next }
     ensures opened { (s : Side) →
         beginning caps.new dtus.new jobs.new outs.new s
-        ≡ opened setup.now kernel root up (waiters_of waiter) keep
-        (beginning caps.old dtus.old jobs.old outs.old s) }
+        ≡ opened setup.now wanted.kernel wanted.root wanted.up (waiters_of wanted.waiter)
+        wanted.keep (beginning caps.old dtus.old jobs.old outs.old s) }
     ensures boxes { HasBoxes setup.now outs.new }
     ensures spare { outs.old.spare
-        ≤ outs.new.spare + length (children_of caps.old.caps (region caps.old.caps root)) }
+        ≤ outs.new.spare
+        + length (children_of caps.old.caps (region caps.old.caps wanted.root)) }
     ensures job_spare { jobs.old.spare ≤ jobs.new.spare + 1 }
     ensures caps_spare { caps.new.spare ≡ caps.old.spare }
     ensures dtus { dtus.new.ours ≡ dtus.old.ours }
     ensures space { HasSpace caps.new scratch.new }
     ensures gone { vec_capacity scratch.new.gone ≡ vec_capacity scratch.old.gone }
 {
+    let NewJob {
+        kernel,
+        root,
+        up,
+        waiter,
+        keep,
+    } = wanted;
     let job = start_job(root, up, waiter, keep, jobs);
     mark_region(caps, root, job, &mut scratch.keys, &mut scratch.links);
     dtus.unbind_all(&scratch.keys);

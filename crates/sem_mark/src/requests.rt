@@ -14,8 +14,8 @@ ghost use Rattle.sem_machine.specs.Revokes.{finished, obtain_cancelled, opened};
 ghost use Rattle.sem_machine.specs.Stores.{with_parks, with_vpes};
 ghost use Rattle.sem_mark.specs.Marking.{HasSpace, LeadsHome, revoking};
 
+use crate::begin::begin_revoke;
 use crate::messages::done;
-use crate::opening::{done_job, open_job};
 use sem_caps::Caps;
 use sem_dtu::Dtus;
 use sem_jobs::{Jobs, Scratch};
@@ -84,20 +84,18 @@ pub fn revoke_request(
         jobs.set_up(marker, up);
         return None;
     }
-    let begun = open_job(
+    begin_revoke(
         setup,
         kernel,
         key,
         Some(up),
         None,
-        false,
         caps,
         dtus,
         jobs,
         outs,
         scratch,
-    );
-    done_job(jobs, begun)
+    )
 }
 
 // The call that was about to install the key no longer will, and the selector promised to it is

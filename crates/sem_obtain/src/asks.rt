@@ -4,7 +4,7 @@ ghost use Rattle.sem_msg.specs.Lookups.{is_declared};
 ghost use Rattle.sem_msg.specs.Message.{Fits, IsValidTarget};
 ghost use Rattle.sem_msg.specs.Outboxes.{HasSent};
 ghost use Rattle.sem_vpe.specs.Telling.{CanAsk};
-ghost use Rattle.sem_machine.specs.Asks.{target_vpe as target_vpe_spec};
+ghost use Rattle.sem_machine.specs.Asks.{target_vpe};
 ghost use Rattle.sem_machine.specs.Sides.{Side, no_side};
 ghost use Rattle.sem_machine.specs.Steps.{first_code, unshown};
 ghost use Rattle.sem_machine.specs.Calls.{ask_made, destination_tests};
@@ -14,6 +14,13 @@ use sem_key::Place;
 use sem_msg::{Ask, Message, Outboxes, Parked, Setup, Target};
 use sem_park::Park;
 use sem_vpe::Vpes;
+
+/// What a VPE asks for, and the selector at which it is to stand.
+#[derive(Clone, Copy, Debug)]
+pub(crate) struct Wish {
+    pub target: Target,
+    pub dst: u8,
+}
 
 // The message that asks for a capability.
 fn request(place: Place, target: Target) -> Message
@@ -25,30 +32,28 @@ fn request(place: Place, target: Target) -> Message
 }
 
 // The VPE draws a number, promises the destination and waits; the VPE of the target gets the ask.
-pub fn make_ask(
+pub(crate) fn make_ask(
     setup: &Setup,
     kernel: u32,
     vpe: u16,
-    dst: u8,
-    other: u16,
-    target: Target,
+    wish: Wish,
     vpes: &mut Vpes,
     park: &mut Park,
     outs: &mut Outboxes,
 )
     requires can { CanAsk setup.now kernel vpe vpes.old outs.old }
-    requires other { other ≡ target_vpe_spec target }
-    requires asked { is_declared setup.now other ≡ true }
-    requires target { IsValidTarget target }
-    requires free { first_code (destination_tests (with_vpes vpes.old.rows no_side) vpe dst)
+    requires asked { is_declared setup.now (target_vpe wish.target) ≡ true }
+    requires target { IsValidTarget wish.target }
+    requires free { first_code (destination_tests (with_vpes vpes.old.rows no_side) vpe wish.dst)
         ≡ None }
     ensures row { (s : Side) →
         unshown (with_vpes_parks_outs vpes.new.rows park.new outs.new.boxes s)
-        ≡ ask_made setup.now kernel vpe dst target
+        ≡ ask_made setup.now kernel vpe wish.dst wish.target
         (with_vpes_parks_outs vpes.old.rows park.old outs.old.boxes s) }
     ensures ours { vpes.new.ours ≡ vpes.old.ours }
     ensures left { HasSent setup.now outs.old outs.new }
 {
+    let Wish { target, dst } = wish;
     let pe = setup.pe_of(vpe);
     let Ok(number) = vpes.draw(vpe) else {
         unreachable!()
@@ -58,6 +63,7 @@ pub fn make_ask(
     };
     park.park(vpe, Parked::ObtainWait { number, sel: dst });
     let place = Place { pe, vpe, number };
+    let other = target.vpe();
     let owner = setup.declared_kernel(other);
     if owner == kernel {
         vpes.ask(other, Ask::Obtain { place, target });

@@ -13,7 +13,7 @@ ghost use Rattle.sem_machine.specs.Sound.{IsSoundObject};
 ghost use Rattle.sem_machine.specs.Calls.{obtain_row, offer_row, open_row};
 ghost use Rattle.sem_machine.specs.Stores.{owning, with_caps_vpes_parks_outs, with_vpes_parks_outs};
 
-use crate::asks::make_ask;
+use crate::asks::{Wish, make_ask};
 use crate::lookups::{service_key, session_service};
 use crate::refusals::{obtain_refusal, offer_refusal, open_refusal};
 use sem_caps::Caps;
@@ -47,7 +47,7 @@ pub fn obtain_call(
         return Outcome::answered(code);
     }
     let target = selector(setup, other, src);
-    make_ask(setup, kernel, vpe, dst, other, target, vpes, park, outs);
+    make_ask(setup, kernel, vpe, Wish { target, dst }, vpes, park, outs);
     Outcome::nothing()
 }
 
@@ -88,17 +88,7 @@ pub fn open_call(
         return Outcome::answered(Code::NoService);
     };
     let target = session_with(service);
-    make_ask(
-        setup,
-        kernel,
-        vpe,
-        dst,
-        service.vpe,
-        target,
-        vpes,
-        park,
-        outs,
-    );
+    make_ask(setup, kernel, vpe, Wish { target, dst }, vpes, park, outs);
     Outcome::nothing()
 }
 
@@ -135,17 +125,7 @@ pub fn offer_call(
         return Outcome::answered(Code::BadKind);
     };
     let target = offer_of(service, index);
-    make_ask(
-        setup,
-        kernel,
-        vpe,
-        dst,
-        service.vpe,
-        target,
-        vpes,
-        park,
-        outs,
-    );
+    make_ask(setup, kernel, vpe, Wish { target, dst }, vpes, park, outs);
     Outcome::nothing()
 }
 

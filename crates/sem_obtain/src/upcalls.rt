@@ -18,8 +18,8 @@ ghost use Rattle.sem_machine.specs.Steps.{step_of};
 ghost use Rattle.sem_machine.specs.Upcalls.{ask_decided, given as given_spec, given_here};
 ghost use Rattle.sem_machine.specs.Upcalls.{obtain_consent, source as source_spec};
 ghost use Rattle.sem_machine.specs.Stores.{installing, owning, with_caps_vpes_parks_outs};
-ghost use Rattle.sem_obtain.specs.Asking.{answer_to, is_place_unawaited as is_unawaited_spec, child_sent};
-ghost use Rattle.sem_obtain.specs.Asking.{IsGivable, IsUnusedNumber};
+ghost use Rattle.sem_obtain.specs.Asking.{answer_to, child_sent, IsGivable, IsUnusedNumber};
+ghost use Rattle.sem_obtain.specs.Asking.{is_place_unawaited as is_unawaited_spec};
 
 use crate::ends::refuse_ask;
 use crate::lookups::source;
@@ -30,6 +30,14 @@ use sem_key::{Cap, Key, Object, Place, keyed};
 use sem_msg::{Code, Consent, Message, Outboxes, Outcome, Parked, Setup, Target};
 use sem_park::Park;
 use sem_vpe::Vpes;
+
+// What a VPE grants: a child of the capability `parent`, with that key and object.
+#[derive(Clone, Copy, Debug)]
+struct Grant {
+    parent: Key,
+    key: Key,
+    object: Object,
+}
 
 /// The VPE is asked for the capability at one of its selectors, for a session with its service, or
 /// for what its service offers. It may deny, or have nothing to give. Its child is installed, or,
@@ -70,8 +78,17 @@ pub fn obtain_upcall(
             Outcome::asked(place.vpe, Consent::No, None)
         }
         Consent::Yes => {
-            let grant = consent(setup, kernel, vpe, place, target, caps, vpes, park, outs);
-            Outcome::asked(place.vpe, Consent::Yes, grant)
+            if let Some(code) = source_refusal(setup, vpe, &target, caps, vpes) {
+                refuse_ask(setup, kernel, place, code, vpes, park, outs);
+                return Outcome::asked(place.vpe, Consent::Yes, None);
+            }
+            let Some(cap) = source(setup, vpe, &target, caps, vpes) else {
+                unreachable!()
+            };
+            let grant = granting(cap, place, &target);
+            let granted = (grant.parent, grant.key);
+            give(setup, kernel, grant, caps, vpes, park, outs);
+            Outcome::asked(place.vpe, Consent::Yes, Some(granted))
         }
     }
 }
@@ -95,46 +112,18 @@ fn is_unawaited(setup: &Setup, kernel: u32, place: Place, park: &Park) -> bool
     setup.kernel_of(place.vpe) == kernel && !park.is_obtain_wait(place.vpe, place.number)
 }
 
-// The VPE gives what it is asked for, unless it can't. Returns the parent and the child.
-fn consent(
-    setup: &Setup,
-    kernel: u32,
-    vpe: u16,
-    place: Place,
-    target: Target,
-    caps: &mut Caps,
-    vpes: &mut Vpes,
-    park: &mut Park,
-    outs: &mut Outboxes,
-) -> Option<(Key, Key)>
-    requires can { CanTell setup.now kernel vpe vpes.old outs.old }
-    requires owner { place_owner_spec setup.now place < setup.now.kernels }
-    requires target { IsValidTarget target }
-    requires source { IfSome
-        (source_spec setup.now (owning caps.old.caps vpes.old.rows no_side) vpe target)
-        (IsGivable caps.old) }
-    requires free { (kind : Kind) → kernel_of_spec setup.now place.vpe ≡ kernel →
-        cap_of caps.old.caps (keyed_spec place kind) ≡ None }
-    requires spare { 0 < caps.old.spare }
-    ensures row { (s : Side) →
-        step_of (record { asked = None; grant = result; cut = None; reply = None })
-        (with_caps_vpes_parks_outs caps.new.caps vpes.new.rows park.new outs.new.boxes s)
-        ≡ obtain_consent setup.now kernel vpe place target
-        (with_caps_vpes_parks_outs caps.old.caps vpes.old.rows park.old outs.old.boxes s) }
-    ensures ours { vpes.new.ours ≡ vpes.old.ours }
-    ensures spare { caps.old.spare ≤ caps.new.spare + 1 }
-    ensures left { HasSent setup.now outs.old outs.new }
+// What is granted to the asker at that place, from the capability.
+fn granting(cap: &Cap, place: Place, target: &Target) -> Grant
+    ensures parent { result.parent ≡ cap.now.key }
+    ensures key { result.key ≡ keyed_spec place (object_kind result.object) }
+    ensures object { result.object ≡ given_spec target.now place.vpe (capability_of cap.now) }
 {
-    if let Some(code) = source_refusal(setup, vpe, &target, caps, vpes) {
-        refuse_ask(setup, kernel, place, code, vpes, park, outs);
-        return None;
+    let object = given(target, place.vpe, cap);
+    Grant {
+        parent: cap.key,
+        key: keyed(place, object.kind()),
+        object,
     }
-    let cap = source(setup, vpe, &target, caps, vpes)?;
-    let parent = cap.key;
-    let object = given(&target, place.vpe, cap);
-    let key = keyed(place, object.kind());
-    give(setup, kernel, parent, key, object, caps, vpes, park, outs);
-    Some((parent, key))
 }
 
 // The object of the child: that of the source, or a session of the asker with the service.
@@ -154,30 +143,34 @@ fn given(target: &Target, asker: u16, cap: &Cap) -> Object
 fn give(
     setup: &Setup,
     kernel: u32,
-    parent: Key,
-    key: Key,
-    object: Object,
+    grant: Grant,
     caps: &mut Caps,
     vpes: &mut Vpes,
     park: &mut Park,
     outs: &mut Outboxes,
 )
     requires home { AreOurs setup.now kernel vpes.old }
-    requires owner { owner_of_spec setup.now key < setup.now.kernels }
-    requires object { IsValidObject object }
-    requires kind { key.kind ≡ object_kind object }
-    requires child_room { caps.old.child_room ≡ Some parent }
-    requires free { kernel_of_spec setup.now key.vpe ≡ kernel → cap_of caps.old.caps key ≡ None }
+    requires owner { owner_of_spec setup.now grant.key < setup.now.kernels }
+    requires object { IsValidObject grant.object }
+    requires kind { grant.key.kind ≡ object_kind grant.object }
+    requires child_room { caps.old.child_room ≡ Some grant.parent }
+    requires free { kernel_of_spec setup.now grant.key.vpe ≡ kernel →
+        cap_of caps.old.caps grant.key ≡ None }
     requires spare { 0 < caps.old.spare }
     requires sends { CanSend setup.now outs.old }
     ensures row { (s : Side) →
         with_caps_vpes_parks_outs caps.new.caps vpes.new.rows park.new outs.new.boxes s
-        ≡ child_sent setup.now kernel parent key object
+        ≡ child_sent setup.now kernel grant.parent grant.key grant.object
         (with_caps_vpes_parks_outs caps.old.caps vpes.old.rows park.old outs.old.boxes s) }
     ensures ours { vpes.new.ours ≡ vpes.old.ours }
     ensures spare { caps.old.spare ≤ caps.new.spare + 1 }
     ensures left { HasSent setup.now outs.old outs.new }
 {
+    let Grant {
+        parent,
+        key,
+        object,
+    } = grant;
     caps.link(parent, key);
     if setup.kernel_of(key.vpe) == kernel {
         give_here(parent, key, object, caps, vpes, park);

@@ -1,14 +1,14 @@
 ghost use Rattle.std.specs.Prelude.{◌≡◌, ◌<◌, ◌≤◌, ◌+◌, true, Some};
 ghost use Rattle.sem_key.specs.declared.object.Object.TheVariants.{Send};
 ghost use Rattle.sem_msg.specs.Lookups.{is_declared};
-ghost use Rattle.sem_msg.specs.VpeRows.{row, slot};
+ghost use Rattle.sem_msg.specs.VpeRows.{row};
 ghost use Rattle.sem_vpe.specs.VpeTable.{IsOurs};
 ghost use Rattle.sem_machine.specs.Sides.{Side};
 ghost use Rattle.sem_machine.specs.Steps.{step_of};
 ghost use Rattle.sem_machine.specs.Calls.{child_made, derive_row, gate_row};
 ghost use Rattle.sem_machine.specs.Calls.{narrowed as narrowed_spec};
 ghost use Rattle.sem_machine.specs.Stores.{IsNextFree, owning};
-ghost use Rattle.sem_own.specs.Holding.{HasRoomForChild};
+ghost use Rattle.sem_own.specs.Holding.{CanHaveChild};
 
 use crate::refusals::{derive_refusal, gate_refusal};
 use sem_caps::Caps;
@@ -24,6 +24,13 @@ pub struct Part {
     pub rights: u8,
 }
 
+/// What a send gate has: its label and its credits.
+#[derive(Clone, Copy, Debug, PartialEq, Eq)]
+pub struct Gate {
+    pub label: u32,
+    pub credits: u8,
+}
+
 /// The call `derive`: the VPE derives that part of the memory at `src` into its selector `dst`.
 pub fn derive_call(
     setup: &Setup,
@@ -34,11 +41,7 @@ pub fn derive_call(
     caps: &mut Caps,
     vpes: &mut Vpes,
 ) -> Outcome
-    requires declared { is_declared setup.now vpe ≡ true }
-    requires ours { IsOurs vpes.old vpe }
-    requires free { IsNextFree setup.now caps.old.caps vpes.old.rows vpe }
-    requires child_room { HasRoomForChild caps.old (slot vpes.old.rows vpe src) }
-    requires spare { 0 < caps.old.spare }
+    requires can { CanHaveChild setup.now vpe src caps.old vpes.old }
     ensures row { (s : Side) →
         step_of result (owning caps.new.caps vpes.new.rows s)
         ≡ derive_row setup.now (owning caps.old.caps vpes.old.rows s) vpe src dst part.now.off
@@ -57,29 +60,26 @@ pub fn derive_call(
     make_child(setup, vpe, dst, object, key, caps, vpes)
 }
 
-/// The call `gate`: the VPE makes a send gate for the receive gate at `src`, at its selector `dst`.
+/// The call `gate`: the VPE makes that send gate for the receive gate at `src`, at its selector
+/// `dst`.
 pub fn gate_call(
     setup: &Setup,
     vpe: u16,
     src: u8,
     dst: u8,
-    label: u32,
-    credits: u8,
+    gate: Gate,
     caps: &mut Caps,
     vpes: &mut Vpes,
 ) -> Outcome
-    requires declared { is_declared setup.now vpe ≡ true }
-    requires ours { IsOurs vpes.old vpe }
-    requires free { IsNextFree setup.now caps.old.caps vpes.old.rows vpe }
-    requires child_room { HasRoomForChild caps.old (slot vpes.old.rows vpe src) }
-    requires spare { 0 < caps.old.spare }
+    requires can { CanHaveChild setup.now vpe src caps.old vpes.old }
     ensures row { (s : Side) →
         step_of result (owning caps.new.caps vpes.new.rows s)
-        ≡ gate_row setup.now (owning caps.old.caps vpes.old.rows s) vpe src dst label credits }
+        ≡ gate_row setup.now (owning caps.old.caps vpes.old.rows s) vpe src dst gate.label
+        gate.credits }
     ensures ours { vpes.new.ours ≡ vpes.old.ours }
     ensures spare { caps.old.spare ≤ caps.new.spare + 1 }
 {
-    if let Some(code) = gate_refusal(caps, vpes, vpe, src, dst, credits) {
+    if let Some(code) = gate_refusal(caps, vpes, vpe, src, dst, gate.credits) {
         return Outcome::answered(code);
     }
     let Some(parent) = vpes.held_key(vpe, src).and_then(|key| caps.get(key)) else {
@@ -88,8 +88,8 @@ pub fn gate_call(
     let key = parent.key;
     let object = Object::Send {
         gate: key,
-        label,
-        credits,
+        label: gate.label,
+        credits: gate.credits,
     };
     make_child(setup, vpe, dst, object, key, caps, vpes)
 }

@@ -6,5 +6,5 @@ mod children;
 mod endpoints;
 mod refusals;
 
-pub use children::{Part, derive_call, gate_call};
+pub use children::{Gate, Part, derive_call, gate_call};
 pub use endpoints::{bind_call, credit_call, read_call, send_call, write_call};

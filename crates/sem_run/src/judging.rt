@@ -11,7 +11,7 @@ ghost use Rattle.sem_run.specs.Readings.{TellsAudit};
 ghost use Rattle.sem_run.specs.Findings.{IfAccepted, IsOf};
 
 use sem_audit::audit_of;
-use sem_check::{CheckError, Unwatched, Watch, check_watched};
+use sem_check::{CheckError, Noting, Unwatched, Watch, check_watched};
 use sem_key::OutOfMemory;
 use sem_msg::{Audit, Journal, Setup};
 use sem_report::{Verdict, audit_difference, print_report, read_report, same_audit};
@@ -25,7 +25,13 @@ pub fn judge(alloc: Global, bytes: &[u8]) -> Result<Verdict, OutOfMemory>
     ensures { IfOk result (IsVerdict bytes.now) }
 {
     match read_report(alloc, bytes) {
-        Ok((setup, journal, told)) => judge_told(alloc, setup, journal, &told, &mut Unwatched),
+        Ok((setup, journal, told)) => judge_told(
+            alloc,
+            setup,
+            journal,
+            &told,
+            &mut Noting(Unwatched),
+        ),
         Err(TraceError::Refused(fault)) => Ok(Verdict::BadLine { fault }),
         Err(TraceError::Memory) => Err(OutOfMemory),
     }

@@ -40,12 +40,11 @@ pub fn drain(
     setup.keeps_its_rules();
     let mut lists = list_all(alloc, setup, kernels.as_slice(), fabric)?;
     let mut draws = Draws::new(seed);
-    run_on(alloc, setup, kernels, fabric, &mut draws, &mut lists)
+    run_on(setup, kernels, fabric, &mut draws, &mut lists)
 }
 
 // Runs on by the words until no event is enabled. The lists hold the enabled events.
 fn run_on(
-    alloc: Global,
     setup: &Setup,
     kernels: &mut Vec<Kernel>,
     fabric: &mut Fabric,
@@ -67,7 +66,6 @@ fn run_on(
     while let Some(event) = pick(lists.as_slice(), count, draws) {
         let replied = make_entry(setup, kernels, fabric, event)?;
         count = renew(
-            alloc,
             setup,
             kernels.as_slice(),
             fabric,

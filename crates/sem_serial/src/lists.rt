@@ -43,7 +43,6 @@ pub fn list_all(
 // Renews the lists of the kernels whose enabled events can differ after the event, an enabled one,
 // which made a reply or not. Takes the number of all events before, and gives the number after.
 pub fn renew(
-    alloc: Global,
     setup: &Setup,
     kernels: &[Kernel],
     fabric: &Fabric,
@@ -65,6 +64,7 @@ pub fn renew(
 {
     setup.keeps_its_rules();
     if comes_due(setup, fabric, replied) {
+        let alloc = *lists.allocator();
         *lists = list_all(alloc, setup, kernels, fabric)?;
         return Ok(event_count(lists.as_slice()));
     }

@@ -23,7 +23,7 @@ use Rattle.sem_msg.specs.JobRows.{job_of, job_removed, count_lowered, token_give
 use Rattle.sem_vpe.specs.VpeTable.{VpeTable, AreOurs, IsOurs}
 use Rattle.sem_caps.specs.CapStore.{key_and_selector}
 use Rattle.sem_machine.specs.Sides.{Side}
-use Rattle.sem_machine.specs.Revokes.{HasOwner, all_freed, closed, finish, spared}
+use Rattle.sem_machine.specs.Revokes.{HasOwner, all_freed, closed, closed_here, finish, left_parent, parent_left, spared, swept, woken}
 use Rattle.sem_sweep.specs.Sweeping.{CanSweepCap, IsUpOf, pairs_freed, parent_messages, up_messages}
 
 pub filter-length : {X : Type 0} (p : X → Bool) (xs : List X) → length (filter p xs) ≤ length xs
@@ -73,14 +73,17 @@ restored-kept T i cs root can = All-map (CanSweepCap T i) (λ c. cond {A = Capab
 pub restored-absent : (cs : List Capability) (root : KeyName) → cap_of cs root ≡ None → restored cs root ≡ cs
 restored-absent cs root none = change-absent (λ c. key_eq c.key root) _ cs none
 
-pub spared-kept : (T : Setup) (i : ℕ) (cs : List Capability) (root : KeyName) (keep : Bool) → All (CanSweepCap T i) cs →
-    All (CanSweepCap T i) (spared keep root cs)
-spared-kept T i cs root true can = restored-kept T i cs root can
-spared-kept T i cs root false can = can
+-- a capability without mark and children is of the same VPE
+restored-owned : (vpes : VpeTable) (c : Capability) (t : Bool) → IsOurs vpes c.key.vpe →
+    IsOurs vpes (cond {A = Capability} t (record c { children = []; mark = None }) c).key.vpe
+restored-owned vpes c true ours = ours
+restored-owned vpes c false ours = ours
 
-pub spared-length : (cs : List Capability) (root : KeyName) (keep : Bool) → length (spared keep root cs) ≡ length cs
-spared-length cs root true = length-map cs _
-spared-length cs root false = refl
+pub spared-ours : (vpes : VpeTable) (cs : List Capability) (root : KeyName) (keep : Bool) → All (λ c. IsOurs vpes c.key.vpe) cs →
+    All (λ c. IsOurs vpes c.key.vpe) (spared keep root cs)
+spared-ours vpes cs root true ours = All-map (λ c. IsOurs vpes c.key.vpe) (λ c. cond {A = Capability} (key_eq c.key root) (record c { children = []; mark = None }) c) cs
+    (λ k d lt. restored-owned vpes _ _ (ours k d lt))
+spared-ours vpes cs root false ours = ours
 
 -- what can be swept is of VPEs of this kernel
 pub can-ours : (T : Setup) (i : ℕ) (vpes : VpeTable) (cs : List Capability) → AreOurs T i vpes → All (CanSweepCap T i) cs → All (λ c. IsOurs vpes c.key.vpe) cs
@@ -200,6 +203,13 @@ pub home-same : (T : Setup) (i : ℕ) (old new : VpeTable) → new.ours ≡ old.
 home-same T i old new same home v here = rw same (home v here)
 
 -- The turns of a sweep.
+
+-- a job is closed once its marks are swept, the calls that wait for it go on, and its root left its
+-- parent
+pub closed-here : (T : Setup) (i : ℕ) (x : JobRow) (s s1 s2 : Side) (o : Option KeyName) → s1 ≡ woken x.waiters (swept x s) → o ≡ left_parent s x →
+    s2 ≡ parent_left T i x o s1 → s2 ≡ closed_here T i x s
+unfolding closed_here
+closed-here T i x s s1 s2 o here parent left = rw (left, parent, here) refl
 
 pub finish-none : (T : Setup) (i n : ℕ) (s : Side) → finish T i n None s ≡ s
 unfolding finish

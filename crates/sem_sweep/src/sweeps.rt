@@ -12,10 +12,9 @@ ghost use Rattle.sem_msg.specs.Outboxes.{HasBoxes};
 ghost use Rattle.sem_msg.specs.Setup.{Setup as SetupOf};
 ghost use Rattle.sem_vpe.specs.VpeTable.{AreOurs, IsOurs};
 ghost use Rattle.sem_machine.specs.Sides.{Side, no_side};
-ghost use Rattle.sem_machine.specs.Stores.{with_caps, with_caps_vpes_parks_outs, with_jobs};
-ghost use Rattle.sem_machine.specs.Stores.{with_outs, with_vpes};
-ghost use Rattle.sem_machine.specs.Revokes.{HasOwner, all_woken, closed_here, finish, left_parent};
-ghost use Rattle.sem_machine.specs.Revokes.{parent_left, spared, up_told};
+ghost use Rattle.sem_machine.specs.Stores.{installing, with_caps, with_jobs, with_outs, with_vpes};
+ghost use Rattle.sem_machine.specs.Revokes.{HasOwner, all_woken, finish, left_parent, parent_left};
+ghost use Rattle.sem_machine.specs.Revokes.{spared, swept, up_told, woken};
 ghost use Rattle.sem_sweep.specs.Sweeping.{CanSweepCap, IsUpOf};
 ghost use Rattle.sem_sweep.specs.Sweeping.{is_remote as is_remote_spec, marked_removed};
 ghost use Rattle.sem_sweep.specs.Sweeping.{parent_messages, sweeping, up_messages};
@@ -65,53 +64,40 @@ pub fn sweep(
         let Some(finished) = jobs.take(id) else {
             unreachable!()
         };
-        close(
-            setup,
-            kernel,
-            &finished,
-            caps,
-            vpes,
-            park,
-            outs,
-            &mut scratch.gone,
-        );
+        let parent = close(&finished, caps, vpes, park, &mut scratch.gone);
+        leave_parent(setup, kernel, &finished, parent, caps, outs);
         next = tell_up(setup, finished.up, jobs, outs);
     }
 }
 
-// Closes a job that was taken out, but does not tell the job that waits for it.
+// Sweeps what a finished job has marked, and wakes the calls that wait for it. Returns the parent
+// that its root leaves.
 fn close(
-    setup: &Setup,
-    kernel: u32,
     finished: &Job,
     caps: &mut Caps,
     vpes: &mut Vpes,
     park: &mut Park,
-    outs: &mut Outboxes,
     gone: &mut Vec<(Key, u8)>,
-)
-    requires home { AreOurs setup.now kernel vpes.old }
-    requires caps { All (CanSweepCap setup.now kernel) caps.old.caps }
-    requires boxes { HasBoxes setup.now outs.old }
-    requires spare { parent_messages finished.now.up ≤ outs.old.spare }
+) -> Option<Key>
+    requires ours { All (λ c. IsOurs vpes.old c.key.vpe) caps.old.caps }
     requires space { length caps.old.caps ≤ vec_capacity gone.old }
     ensures row { (s : Side) →
-        with_caps_vpes_parks_outs caps.new.caps vpes.new.rows park.new outs.new.boxes s
-        ≡ closed_here setup.now kernel finished.now
-        (with_caps_vpes_parks_outs caps.old.caps vpes.old.rows park.old outs.old.boxes s) }
-    ensures caps { All (CanSweepCap setup.now kernel) caps.new.caps }
+        installing caps.new.caps vpes.new.rows park.new s
+        ≡ woken finished.now.waiters
+        (swept finished.now (installing caps.old.caps vpes.old.rows park.old s)) }
+    ensures parent { result ≡ left_parent (with_caps caps.old.caps no_side) finished.now }
+    ensures kept { (T : SetupOf) (i : ℕ) → All (CanSweepCap T i) caps.old.caps →
+        All (CanSweepCap T i) caps.new.caps }
     ensures count { length caps.new.caps ≤ length caps.old.caps }
     ensures ours { vpes.new.ours ≡ vpes.old.ours }
-    ensures boxes { HasBoxes setup.now outs.new }
-    ensures spare { outs.old.spare ≤ outs.new.spare + parent_messages finished.now.up }
-    ensures caps_spare { caps.old.spare ≤ caps.new.spare }
+    ensures spare { caps.old.spare ≤ caps.new.spare }
     ensures space { vec_capacity gone.new ≡ vec_capacity gone.old }
 {
     let parent = parent_to_leave(finished, caps);
     spare_root(finished, caps);
     remove_caps(finished.id, finished.root, caps, vpes, gone);
     wake_all(&finished.slots, park);
-    leave_parent(setup, kernel, finished, parent, caps, outs);
+    parent
 }
 
 // The parent that loses the root of a finished job: none, if the job keeps its root.

@@ -1,11 +1,12 @@
 // The forests after each of some entries, told as the changes from one to the next.
 use crate::nodes::nodes_of;
-use crate::rows::tree_rows;
+use crate::tracks::Tracks;
 use crate::trees::{KEYS, key_count};
-use crate::walks::Walk;
+use sem_check::{Note, Noting, follow};
 use sem_draw::{Node, State};
+use sem_kernel::World;
 use sem_key::OutOfMemory;
-use sem_msg::{Journal, Setup};
+use sem_msg::{Entry, Journal, Setup};
 use serde::{Described, Serialize};
 use std::alloc::Global;
 
@@ -58,24 +59,66 @@ pub fn forest_lines(
     if keys > KEYS {
         return Err(ForestsFault::TooMany(keys));
     }
-    let mut walk = Walk::start(alloc, setup)?;
-    let mut out = String::new(alloc);
-    let mut told: Vec<Node> = Vec::new(alloc);
-    for count in 0..=to {
-        if count > 0
-            && let Some(entry) = entries.get(count.saturating_sub(1))
-            && !walk.go_on(setup, entry)?
-        {
-            return Err(ForestsFault::Wrong(count.saturating_sub(1)));
-        }
-        if count >= from {
-            let rows = tree_rows(alloc, setup, journal, count)?;
-            let nodes = nodes_of(alloc, setup, rows.as_slice(), &entries[..count], &walk)?;
-            push_changes(alloc, &mut out, count, told.as_slice(), nodes.as_slice())?;
-            told = nodes;
-        }
+    let mut world = World::boot(alloc, setup)?;
+    let mut lines = ForestLines {
+        alloc,
+        journal,
+        from,
+        tracks: Tracks::start(alloc, setup)?,
+        told: Vec::new(alloc),
+        text: String::new(alloc),
+    };
+    lines.tell(setup, &world, 0)?;
+    let mut noting = Noting(lines);
+    match follow(setup, &mut world, &entries[..to], &mut noting)? {
+        None => Ok(noting.0.text),
+        Some(difference) => Err(ForestsFault::Wrong(difference.entry)),
     }
-    Ok(out)
+}
+
+// The lines of the forests from some number of entries on, and the last forest that they tell.
+#[derive(Drop)]
+struct ForestLines<'a> {
+    alloc: Global,
+    journal: &'a Journal,
+    from: usize,
+    tracks: Tracks,
+    told: Vec<Node>,
+    text: String,
+}
+
+impl ForestLines<'_> {
+    // Appends the line of the forest after the first `count` entries, which lead to the world,
+    // unless the lines begin later.
+    fn tell(&mut self, setup: &Setup, world: &World, count: usize) -> Result<(), OutOfMemory> {
+        if count < self.from {
+            return Ok(());
+        }
+        let alloc = self.alloc;
+        let nodes = nodes_of(alloc, setup, self.journal, count, world, &self.tracks)?;
+        push_changes(
+            alloc,
+            &mut self.text,
+            count,
+            self.told.as_slice(),
+            nodes.as_slice(),
+        )?;
+        self.told = nodes;
+        Ok(())
+    }
+}
+
+impl Note for ForestLines<'_> {
+    fn note(
+        &mut self,
+        setup: &Setup,
+        world: &World,
+        past: &[Entry],
+        entry: &Entry,
+    ) -> Result<(), OutOfMemory> {
+        self.tracks.note(setup, world, past, entry)?;
+        self.tell(setup, world, past.len().saturating_add(1))
+    }
 }
 
 // Appends the line of a forest after another one.

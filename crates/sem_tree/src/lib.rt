@@ -8,8 +8,8 @@ mod places;
 mod rows;
 mod standings;
 mod takings;
+mod tracks;
 mod trees;
-mod walks;
 
 pub use forests::{ForestsFault, forest_lines};
 pub use rows::{TreeRow, tree_rows};

@@ -1,39 +1,43 @@
 // The rows of a forest as drawable nodes.
 use crate::clears::clear_of;
 use crate::places::Places;
-use crate::rows::TreeRow;
+use crate::rows::{TreeRow, tree_rows};
 use crate::standings::{Hold, hold_of};
 use crate::takings::takings;
-use crate::walks::Walk;
+use crate::tracks::Tracks;
 use sem_draw::{LEVELS, Node, State};
 use sem_hint::{cause_text, key_text, object_text};
 use sem_kernel::World;
 use sem_key::{Key, Object, OutOfMemory, same_key};
-use sem_msg::{ENDPOINTS, Entry, Setup};
+use sem_msg::{ENDPOINTS, Entry, Journal, Setup};
 use std::alloc::Global;
 
-/// The nodes of the rows, one for each, after these entries.
+/// The nodes of the forest after the first `count` entries of a journal, which lead to the world.
 pub fn nodes_of(
     alloc: Global,
     setup: &Setup,
-    rows: &[TreeRow],
-    entries: &[Entry],
-    walk: &Walk,
+    journal: &Journal,
+    count: usize,
+    world: &World,
+    tracks: &Tracks,
 ) -> Result<Vec<Node>, OutOfMemory> {
-    let places = Places::of_rows(alloc, rows)?;
-    let taken = takings(alloc, rows, &places, entries)?;
+    let entries = journal.as_slice();
+    let entries = &entries[..count.min(entries.len())];
+    let rows = tree_rows(alloc, setup, journal, count)?;
+    let places = Places::of_rows(alloc, rows.as_slice())?;
+    let taken = takings(alloc, rows.as_slice(), &places, entries)?;
     let mut depths: Vec<usize> = Vec::new(alloc);
     let mut nodes = Vec::new(alloc);
     for (place, row) in rows.iter().enumerate() {
         let parent = row.parent.and_then(|parent| places.of(parent));
         let depth = depth_below(depths.as_slice(), parent);
-        let hold = hold_of(&walk.world, setup, row.key);
+        let hold = hold_of(world, setup, row.key);
         let taker = taken.get(place).copied().flatten();
-        let state = state_of(row.key, hold, walk);
+        let state = state_of(row.key, hold, tracks);
         let mut text = place_text(alloc, setup, row.key, state, hold)?;
-        push_endpoints(alloc, &mut text, row.key, &walk.world)?;
+        push_endpoints(alloc, &mut text, row.key, world)?;
         push_cause(alloc, &mut text, entries, row.key, state, taker)?;
-        push_object(alloc, &mut text, walk.objects.get(place))?;
+        push_object(alloc, &mut text, tracks.objects.get(place))?;
         push_deep(alloc, &mut text, row, depth)?;
         nodes.push(Node {
             parent,
@@ -78,11 +82,11 @@ fn push_deep(
 }
 
 // The state of a key, by who holds it.
-fn state_of(key: Key, hold: Option<Hold>, walk: &Walk) -> State {
+fn state_of(key: Key, hold: Option<Hold>, tracks: &Tracks) -> State {
     match hold {
         Some(hold) if hold.is_marked => State::Marked,
         Some(_) => State::Held,
-        None if walk.is_on_its_way(key) => State::OnItsWay,
+        None if tracks.is_on_its_way(key) => State::OnItsWay,
         None => State::Gone,
     }
 }

@@ -1,9 +1,10 @@
 // Requests for a forest, and their answers.
 use crate::nodes::nodes_of;
-use crate::rows::tree_rows;
-use crate::walks::Walk;
+use crate::tracks::Tracks;
+use sem_check::{Noting, follow};
 use sem_draw::{Answer, Ending, Node, Picture, tree_as_dot, tree_as_svg, tree_as_text};
 use sem_hint::{no_report, too_few_entries, wrong_entry};
+use sem_kernel::World;
 use sem_key::OutOfMemory;
 use sem_msg::{Entry, Journal, Setup};
 use sem_report::read_report;
@@ -66,27 +67,13 @@ fn tree_of(
         )?;
         return Ok(Answer::failed(alloc, Ending::WrongWords, text));
     }
-    let mut walk = Walk::start(alloc, setup)?;
-    if let Some(number) = first_wrong(&mut walk, setup, entries)? {
-        return wrong_entry(alloc, number);
+    let mut world = World::boot(alloc, setup)?;
+    let mut tracks = Noting(Tracks::start(alloc, setup)?);
+    if let Some(difference) = follow(setup, &mut world, entries, &mut tracks)? {
+        return wrong_entry(alloc, difference.entry);
     }
-    let rows = tree_rows(alloc, setup, journal, count)?;
-    let nodes = nodes_of(alloc, setup, rows.as_slice(), entries, &walk)?;
+    let nodes = nodes_of(alloc, setup, journal, count, &world, &tracks.0)?;
     Ok(Answer::done(alloc, draw(alloc, nodes.as_slice(), request.form)?))
-}
-
-// The number of the first entry that is not the one that its event makes, if there is one.
-fn first_wrong(
-    walk: &mut Walk,
-    setup: &Setup,
-    entries: &[Entry],
-) -> Result<Option<usize>, OutOfMemory> {
-    for (number, entry) in entries.iter().enumerate() {
-        if !walk.go_on(setup, entry)? {
-            return Ok(Some(number));
-        }
-    }
-    Ok(None)
 }
 
 // Draws the forest. Text also tells how to ask for the life of a key; in an SVG picture each key

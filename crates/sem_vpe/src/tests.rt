@@ -1,4 +1,6 @@
-ghost use Rattle.std.specs.Prelude.{◌≡◌, ◌≤◌, IfOk};
+ghost use Rattle.std.specs.Prelude.{◌≡◌, ◌≤◌, [], IfOk, None, replicate};
+ghost use Rattle.sem_key.specs.declared.limits.TheConstants.{PES};
+ghost use Rattle.sem_key.specs.MembershipTable.{IsMembership, with_owner};
 ghost use Rattle.sem_vpe.specs.VpeTable.{IsOurs};
 
 use crate::{Ask, Numbers, Occupied, Slot, Vpes};
@@ -59,56 +61,54 @@ pub fn offer(sel: u8) -> Ask {
     }
 }
 
-// Kernel 1 has VPE 2, with three roots, and VPE 127, which holds nothing. Kernel 0 has VPE 4.
-pub fn two_kernels(alloc: Global) -> Result<Setup, Fail> {
+// PEs 3 and 9 belong to kernel 1, and PE 5 to kernel 0.
+fn owned_pes() -> Result<Membership, Fail>
+    ensures owners { IfOk result (λ m. m ≡ with_owner (with_owner (with_owner
+        (record { kernels = 2; owners = replicate PES None }) 3 1) 5 0) 9 1) }
+    ensures table { IfOk result IsMembership }
+{
     let mut owners = Membership::empty(2);
     owners.set(3, 1)?;
     owners.set(5, 0)?;
     owners.set(9, 1)?;
+    Ok(owners)
+}
+
+fn root(sel: u8, object: Object) -> Root
+    ensures { result ≡ record { sel = sel; object = object } }
+{
+    Root { sel, object }
+}
+
+// A VPE that makes no calls.
+fn declared(alloc: Global, vpe: u16, pe: u8, roots: &[Root]) -> Result<VpeDecl, OutOfMemory>
+    ensures { IfOk result (λ d. d ≡ record { vpe = vpe; pe = pe; roots = roots.now; calls = [] }) }
+{
+    Ok(VpeDecl {
+        vpe,
+        pe,
+        roots: listed(alloc, roots)?,
+        calls: Calls::new(alloc),
+    })
+}
+
+// Kernel 1 has VPE 2, with three roots, and VPE 127, which holds nothing. Kernel 0 has VPE 4.
+pub fn two_kernels(alloc: Global) -> Result<Setup, Fail> {
+    let owners = owned_pes()?;
     let memory = Object::Mem {
         base: 4096,
         len: 512,
         rights: 3,
     };
     let roots = [
-        Root {
-            sel: 7,
-            object: memory,
-        },
-        Root {
-            sel: 200,
-            object: Object::Recv { slots: 8 },
-        },
-        Root {
-            sel: 0,
-            object: Object::Serv { name: 9 },
-        },
+        root(7, memory),
+        root(200, Object::Recv { slots: 8 }),
+        root(0, Object::Serv { name: 9 }),
     ];
     let mut vpes = Vpes0::new(alloc);
-    vpes.push(VpeDecl {
-        vpe: 2,
-        pe: 3,
-        roots: listed(alloc, &roots)?,
-        calls: Calls::new(alloc),
-    })?;
-    vpes.push(VpeDecl {
-        vpe: 4,
-        pe: 5,
-        roots: listed(
-            alloc,
-            &[Root {
-                sel: 1,
-                object: memory,
-            }],
-        )?,
-        calls: Calls::new(alloc),
-    })?;
-    vpes.push(VpeDecl {
-        vpe: 127,
-        pe: 9,
-        roots: Seq::new(alloc),
-        calls: Calls::new(alloc),
-    })?;
+    vpes.push(declared(alloc, 2, 3, &roots)?)?;
+    vpes.push(declared(alloc, 4, 5, &[root(1, memory)])?)?;
+    vpes.push(declared(alloc, 127, 9, &[])?)?;
     let mut services = Services::new(alloc);
     services.push(Service {
         name: 9,

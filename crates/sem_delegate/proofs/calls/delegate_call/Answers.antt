@@ -1,4 +1,4 @@
-use Rattle.std.proofs.Common.{sym, ap, ◌∙◌, rules}
+use Rattle.std.proofs.Common.{refl, sym, ap, ◌∙◌, rules}
 use Rattle.sem_key.specs.Capability.{capability_of}
 use Rattle.sem_machine.specs.Calls.{delegate_tests}
 use Rattle.sem_machine.specs.Stores.{with_caps, with_vpes_parks_outs}
@@ -23,6 +23,6 @@ returns-clause-row c s =
       outcome = o;
     })
     c.nothing.ensures
-    ∙ c.make_offer.ensures.row (with_caps c.args.caps.now.caps s)
+    ∙ c.make_offer.ensures.row (capability_of c.in-Some-and_then.cap.now) (with_caps c.args.caps.now.caps s) refl refl
     ∙ sym (delegate-done c.args.setup.now c.args.kernel side c.args.vpe c.args.src c.args.other c.args.dst (capability_of c.in-Some-and_then.cap.now)
     c.in_default.ensures (search rules))

@@ -14,20 +14,20 @@ use Rattle.sem_delegate.proofs.consents.decide_here.Goals as goal
 pub returns-in-Some-clause-row : goal.returns-in-Some-clause-row
 returns-in-Some-clause-row c s =
     let T = c.args.setup.now in
-    let p = c.args.parent in
+    let p = c.args.delegation.parent in
     let side : Side = installing c.args.caps.now.caps c.args.vpes.now.rows c.args.park.now s in
     let waits : is_delegate_wait p (state_of c.args.park.now p.vpe) ≡ true = search rules in
-    let consents : denies T c.args.vpe p.vpe ≡ false = search rules in
+    let consents : denies T c.args.delegation.vpe p.vpe ≡ false = search rules in
     let row : record { side = installing c.args.caps.now.caps c.args.vpes.now.rows c.end_waiting-in-Some.new.park s; outcome = c.asked-in-Some.result }
     ≡ asking p.vpe Yes (unshown (call_refused (code_number c.in-Some.code) p.vpe side)) = search rules in
-    row ∙ sym (refused-here T c.args.kernel c.args.vpe p c.args.object c.args.sel side c.in-Some.code c.requires.here waits consents c.in-Some.ensures)
+    row ∙ sym (refused-here T c.args.kernel c.args.delegation.vpe p c.args.delegation.object c.args.delegation.sel side c.in-Some.code c.requires.here waits consents c.in-Some.ensures)
 
 -- no test holds
 pub returns-clause-row : goal.returns-clause-row
 returns-clause-row c s =
     let T = c.args.setup.now in
-    let p = c.args.parent in
+    let p = c.args.delegation.parent in
     let side : Side = installing c.args.caps.now.caps c.args.vpes.now.rows c.args.park.now s in
     let waits : is_delegate_wait p (state_of c.args.park.now p.vpe) ≡ true = search rules in
-    let consents : denies T c.args.vpe p.vpe ≡ false = search rules in
-    c.take_child.ensures.row s ∙ sym (taken-here T c.args.kernel c.args.vpe p c.args.object c.args.sel side c.requires.here waits consents c.in_default.ensures)
+    let consents : denies T c.args.delegation.vpe p.vpe ≡ false = search rules in
+    c.take_child.ensures.row s ∙ sym (taken-here T c.args.kernel c.args.delegation.vpe p c.args.delegation.object c.args.delegation.sel side c.requires.here waits consents c.in_default.ensures)

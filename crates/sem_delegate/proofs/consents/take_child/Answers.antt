@@ -10,4 +10,4 @@ pub insert-requires-clause-absent : goal.insert-requires-clause-absent
 insert-requires-clause-absent c =
     let k : KeyName = c.draw_key-key.result in
     ap (λ (store : CapStore). cap_of store.caps k) c.link.ensures
-    ∙ absent-linked c.args.caps.now.caps c.args.parent k k (ap (cap_of c.args.caps.now.caps) c.draw_key-key.ensures.key ∙ c.requires.free c.parent.inside.kind)
+    ∙ absent-linked c.args.caps.now.caps c.args.delegation.parent k k (ap (cap_of c.args.caps.now.caps) c.draw_key-key.ensures.key ∙ c.requires.free c.parent.inside.kind)

@@ -25,19 +25,19 @@ pub request_all-requires-clause-owners : goal.request_all-requires-clause-owners
 request_all-requires-clause-owners c =
     let caps : List Capability = c.args.caps.now.caps in
     subst (All (HasOwner c.args.setup.now)) (sym (c.deref-2.ensures.value ∙ c.mark_region.ensures.links))
-    (children-owned c.args.setup.now caps (region caps c.args.root) c.requires.owners)
+    (children-owned c.args.setup.now caps (region caps c.args.wanted.root) c.requires.owners)
 
 -- what the stores are, one after the other
 pub returns-clause-opened : goal.returns-clause-opened
 unfolding opened
 returns-clause-opened c s =
     let T = c.args.setup.now in
-    let i = c.args.kernel in
+    let i = c.args.wanted.kernel in
     let j : ℕ = c.args.jobs.now.next in
     let caps : List Capability = c.args.caps.now.caps in
-    let ks : List KeyName = region caps c.args.root in
+    let ks : List KeyName = region caps c.args.wanted.root in
     let s0 : Side = beginning c.args.caps.now c.args.dtus.now c.args.jobs.now c.args.outs.now s in
-    let marked : Side = unbind_all ks (mark_all ks j (job_opened c.args.root c.args.up (waiters_of c.args.waiter) c.args.keep s0)) in
+    let marked : Side = unbind_all ks (mark_all ks j (job_opened c.args.wanted.root c.args.wanted.up (waiters_of c.args.wanted.waiter) c.args.wanted.keep s0)) in
     let half : Side = beginning c.mark_region.new.caps c.unbind_all.new.self c.start_job-job.new.jobs c.args.outs.now s in
     let id : c.start_job-job.result ≡ j = c.start_job-job.ensures.id in
     let caps1 : c.mark_region.new.caps.caps ≡ all_marked ks j caps = ap (λ (x : CapStore). x.caps) c.mark_region.ensures.caps

@@ -1,16 +1,15 @@
-use Rattle.std.proofs.Common.{◌≡◌, ℕ, false, [], ◌∷◌, ◌++◌, List, length, Some, sym, ap, ◌∙◌, arith}
+use Rattle.std.proofs.Common.{◌≡◌, [], ◌∷◌, ◌++◌, List, length, sym, ap, ◌∙◌, arith}
 use Rattle.sem_key.specs.Capability.{capability_of}
 use Rattle.sem_msg.specs.declared.message.Message.{Message}
 use Rattle.sem_msg.specs.declared.message.Message.TheVariants.{RevokeDone}
 use Rattle.sem_msg.specs.declared.state.Up.TheVariants.{Remote}
-use Rattle.sem_msg.specs.JobRows.{if_done, job_of}
 use Rattle.sem_msg.specs.Outboxes.{box_for, with_box}
 use Rattle.sem_machine.specs.Sides.{Side, send}
-use Rattle.sem_machine.specs.Revokes.{obtain_cancelled, opened, with_up}
+use Rattle.sem_machine.specs.Revokes.{obtain_cancelled, with_up}
 use Rattle.sem_machine.specs.Stores.{with_parks, with_vpes}
 use Rattle.sem_machine.proofs.Placed.{boxes-sent}
 use Rattle.sem_mark.specs.Marking.{revoking}
-use Rattle.sem_mark.proofs.Begun.{begun, children-few, finish-none, request-absent, request-marked, request-open}
+use Rattle.sem_mark.proofs.Begun.{children-few, finish-none, request-absent, request-marked, request-open}
 use Rattle.sem_mark.proofs.requests.revoke_request.Goals as goal
 
 -- the key is not held
@@ -48,24 +47,18 @@ returns-in-Some-mark-clause-row c s =
     c.in-Some-mark.is)
 
 -- no job has marked it
-pub open_job-begun-requires-clause-spare : goal.open_job-begun-requires-clause-spare
-open_job-begun-requires-clause-spare c = let few = children-few c.args.caps.now.caps c.args.key in omega (arith, few, c.requires.spare)
+pub begin_revoke-requires-clause-spare : goal.begin_revoke-requires-clause-spare
+begin_revoke-requires-clause-spare c = let few = children-few c.args.caps.now.caps c.args.key in omega (arith, few, c.requires.spare)
 
 pub returns-clause-spare : goal.returns-clause-spare
-returns-clause-spare c = let few = children-few c.args.caps.now.caps c.args.key in omega (arith, few, c.open_job-begun.ensures.spare)
+returns-clause-spare c = let few = children-few c.args.caps.now.caps c.args.key in omega (arith, few, c.begin_revoke.ensures.spare)
 
 pub returns-clause-opened : goal.returns-clause-opened
-returns-clause-opened c is s = c.open_job-begun.ensures.opened (with_vpes c.args.vpes.now.rows (with_parks c.args.park.now s))
+returns-clause-opened c is s = c.begin_revoke.ensures.opened (with_vpes c.args.vpes.now.rows (with_parks c.args.park.now s))
 
 pub returns-clause-row : goal.returns-clause-row
 returns-clause-row c s =
     let T = c.args.setup.now in
-    let i = c.args.kernel in
-    let next : ℕ = c.args.jobs.now.next in
     let side : Side = revoking c.args.caps.now c.args.vpes.now c.args.dtus.now c.args.jobs.now c.args.park.now c.args.outs.now s in
-    let after : Side = revoking c.open_job-begun.new.caps c.args.vpes.now c.open_job-begun.new.dtus c.open_job-begun.new.jobs c.args.park.now
-    c.open_job-begun.new.outs s in
-    let done = c.done_job.ensures.done ∙ ap (λ j. if_done (job_of c.open_job-begun.new.jobs.jobs j)) c.open_job-begun.ensures.id in
-    let begins = c.open_job-begun.ensures.opened (with_vpes c.args.vpes.now.rows (with_parks c.args.park.now s)) in
-    begun T i next c.done_job.result after (opened T i c.args.key (Some (Remote c.args.from c.args.job)) [] false side) done begins
-    ∙ sym (request-open T i side c.args.from c.args.job c.args.key (capability_of c.in-Some.cap.now) c.in-Some.ensures.cap c.in_default-mark.is)
+    c.begin_revoke.ensures.row (with_vpes c.args.vpes.now.rows (with_parks c.args.park.now s))
+    ∙ sym (request-open T c.args.kernel side c.args.from c.args.job c.args.key (capability_of c.in-Some.cap.now) c.in-Some.ensures.cap c.in_default-mark.is)

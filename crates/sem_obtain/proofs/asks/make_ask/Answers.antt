@@ -15,12 +15,12 @@ pub unreachable-requires-in_default-promise : goal.unreachable-requires-in_defau
 unreachable-requires-in_default-promise c =
     let rows = c.args.vpes.now.rows in
     let v = c.args.vpe in
-    let free : is_taken (slot rows v c.args.dst) ≡ false =
-    none-at [] (is_taken (slot rows v c.args.dst)) Occupied ((nat_le NUMBERS (row rows v).next_number, Numbers) ∷ []) c.requires.free in
-    let same : slot (drawn v rows) v c.args.dst ≡ slot rows v c.args.dst =
-    ap (λ (r : VpeRow). slot (r ∷ []) 0 c.args.dst) (get_or-put_same no_vpe rows v (record (row rows v) { next_number = (row rows v).next_number + 1 })) in
+    let free : is_taken (slot rows v c.args.wish.dst) ≡ false =
+    none-at [] (is_taken (slot rows v c.args.wish.dst)) Occupied ((nat_le NUMBERS (row rows v).next_number, Numbers) ∷ []) c.requires.free in
+    let same : slot (drawn v rows) v c.args.wish.dst ≡ slot rows v c.args.wish.dst =
+    ap (λ (r : VpeRow). slot (r ∷ []) 0 c.args.wish.dst) (get_or-put_same no_vpe rows v (record (row rows v) { next_number = (row rows v).next_number + 1 })) in
     let taken = c.in_default-promise.ensures.occupied.0 refl in
-    let taken_old : is_taken (slot rows v c.args.dst) ≡ true = rw (c.in-Ok.ensures.ok, same) at taken in
+    let taken_old : is_taken (slot rows v c.args.wish.dst) ≡ true = rw (c.in-Ok.ensures.ok, same) at taken in
     true≢false (sym taken_old ∙ free)
 
 pub send-requires-clause-to_kernel : goal.send-requires-clause-to_kernel

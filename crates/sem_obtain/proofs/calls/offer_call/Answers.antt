@@ -1,6 +1,6 @@
 use Rattle.std.proofs.Common.{sym, ap, ◌∙◌}
-use Rattle.sem_key.specs.KeyName.{KeyName}
 use Rattle.sem_msg.specs.Lookups.{is_declared}
+use Rattle.sem_msg.specs.Message.{target_vpe}
 use Rattle.sem_machine.specs.Sides.{no_side, own}
 use Rattle.sem_machine.specs.Calls.{ask_made, offer_tests}
 use Rattle.sem_machine.specs.Stores.{owning, with_caps, with_caps_vpes_parks_outs}
@@ -22,7 +22,7 @@ offer_of-target-requires c =
     c.requires.session c.in-Some-session_service.ensures).0.1
 
 pub make_ask-requires-clause-asked : goal.make_ask-requires-clause-asked
-make_ask-requires-clause-asked c = ap (λ (k : KeyName). is_declared c.args.setup.now k.vpe) c.service.view_is
+make_ask-requires-clause-asked c = ap (λ target. is_declared c.args.setup.now (target_vpe target)) c.offer_of-target.ensures.target
     ∙ (session-declared c.args.setup.now (own (owning c.args.caps.now.caps c.args.vpes.now.rows no_side) c.args.vpe c.args.session) c.in-Some-session_service.service
     c.requires.session c.in-Some-session_service.ensures).1
 

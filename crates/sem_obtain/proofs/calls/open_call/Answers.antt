@@ -1,6 +1,6 @@
 use Rattle.std.proofs.Common.{sym, ap, ◌∙◌}
-use Rattle.sem_key.specs.KeyName.{KeyName}
 use Rattle.sem_msg.specs.Lookups.{is_declared}
+use Rattle.sem_msg.specs.Message.{target_vpe}
 use Rattle.sem_machine.specs.Sides.{no_side}
 use Rattle.sem_machine.specs.Calls.{ask_made, open_tests}
 use Rattle.sem_machine.specs.Stores.{with_vpes, with_vpes_parks_outs}
@@ -17,7 +17,8 @@ returns-in-Some-clause-row c s =
 
 -- the VPE of the service is declared
 pub make_ask-requires-clause-asked : goal.make_ask-requires-clause-asked
-make_ask-requires-clause-asked c = ap (λ (k : KeyName). is_declared c.args.setup.now k.vpe) c.service.view_is ∙ c.in-Some-service_key.ensures.declared.0
+make_ask-requires-clause-asked c = ap (λ target. is_declared c.args.setup.now (target_vpe target)) c.session_with-target.ensures.target
+    ∙ c.in-Some-service_key.ensures.declared.0
 
 pub make_ask-requires-clause-free : goal.make_ask-requires-clause-free
 make_ask-requires-clause-free c = open-free c.args.setup.now c.args.kernel (with_vpes c.args.vpes.now.rows no_side) c.args.vpe c.args.dst c.args.name

@@ -21,7 +21,7 @@ make_child-requires-clause-number c = derive-number (owning c.args.caps.now.caps
 pub make_child-requires-clause-child_room : goal.make_child-requires-clause-child_room
 make_child-requires-clause-child_room c = child-room c.args.caps.now (owning c.args.caps.now.caps c.args.vpes.now.rows no_side)
     (slot (owning c.args.caps.now.caps c.args.vpes.now.rows no_side) c.args.vpe c.args.src) (capability_of c.in-Some-and_then.parent.now) refl (search rules)
-    c.requires.child_room
+    c.requires.can.child_room
 
 -- no test holds
 pub returns-clause-row : goal.returns-clause-row

@@ -6,11 +6,19 @@ use Rattle.sem_msg.specs.JobRows.{job_of, job_removed as jobs_removed}
 use Rattle.sem_jobs.specs.JobStore.{JobStore}
 use Rattle.sem_jobs.proofs.Chains.{shorter}
 use Rattle.sem_machine.specs.Sides.{Side, job_removed}
-use Rattle.sem_machine.specs.Revokes.{closed, closed_here, up_told, finish}
-use Rattle.sem_machine.specs.Stores.{with_caps_vpes_parks_outs, with_jobs}
+use Rattle.sem_machine.specs.Revokes.{closed, closed_here, finish, parent_left, swept, up_told, woken}
+use Rattle.sem_machine.specs.Stores.{with_caps_vpes_parks_outs, with_jobs, with_outs, with_parks, with_vpes}
 use Rattle.sem_sweep.specs.Sweeping.{sweeping, parent_messages, up_messages}
-use Rattle.sem_sweep.proofs.Swept.{job-id, up-found, told-kept, told-length, removed-kept, one-message, finish-none, finish-turn}
+use Rattle.sem_sweep.proofs.Swept.{job-id, up-found, told-kept, told-length, removed-kept, one-message, left-owner, can-ours, home-same, closed-here, finish-none, finish-turn}
 use Rattle.sem_sweep.proofs.sweeps.sweep.Goals as goal
+
+pub close-parent-requires-clause-ours : goal.close-parent-requires-clause-ours
+close-parent-requires-clause-ours c = can-ours c.args.setup.now c.args.kernel c.loop-next.vpes c.loop-next.caps.caps
+    (home-same c.args.setup.now c.args.kernel c.args.vpes.now c.loop-next.vpes c.loop-next.invariant.ours c.requires.home) c.loop-next.invariant.caps
+
+pub leave_parent-requires-clause-owner : goal.leave_parent-requires-clause-owner
+leave_parent-requires-clause-owner c = left-owner c.args.setup.now c.args.kernel c.loop-next.caps.caps c.in-Some-take.finished c.close-parent.result
+    c.loop-next.invariant.caps c.close-parent.ensures.parent
 
 pub tell_up-next-requires-clause-up : goal.tell_up-next-requires-clause-up
 tell_up-next-requires-clause-up c =
@@ -50,26 +58,34 @@ loop-next-preserved c =
     let same_messages : up_messages up ≡ up_messages x.up = ap up_messages same_up in
     record {
       there = c.tell_up-next.ensures.there;
-      ours = c.close.ensures.ours ∙ c.loop-next.invariant.ours;
-      caps = c.close.ensures.caps;
+      ours = c.close-parent.ensures.ours ∙ c.loop-next.invariant.ours;
+      caps = c.leave_parent.ensures.kept i (c.close-parent.ensures.kept T i c.loop-next.invariant.caps);
       ups = rw is_told (told-kept T up ys (rw c.in-Some-take.ensures.jobs (removed-kept T id xs c.loop-next.invariant.ups)));
       boxes = c.tell_up-next.ensures.boxes;
-      spare = omega (arith, less, told, taken, one, same_messages, c.tell_up-next.ensures.spare, c.close.ensures.spare, c.loop-next.invariant.spare);
+      spare = omega (arith, less, told, taken, one, same_messages, c.tell_up-next.ensures.spare, c.leave_parent.ensures.spare, c.loop-next.invariant.spare);
       job_spare = let kept = ap (λ (t : JobStore). t.spare) c.tell_up-next.ensures.told in
           omega (arith, kept, c.in-Some-take.ensures.spare, c.loop-next.invariant.job_spare);
-      caps_spare = omega (arith, c.close.ensures.caps_spare, c.loop-next.invariant.caps_spare);
-      count = omega (arith, c.close.ensures.count, c.loop-next.invariant.count);
-      space = c.close.ensures.space ∙ c.loop-next.invariant.space;
+      caps_spare = omega (arith, c.leave_parent.ensures.caps_spare, c.close-parent.ensures.spare, c.loop-next.invariant.caps_spare);
+      count = omega (arith, c.leave_parent.ensures.count, c.close-parent.ensures.count, c.loop-next.invariant.count);
+      space = c.close-parent.ensures.space ∙ c.loop-next.invariant.space;
       keys = c.loop-next.invariant.keys;
       links = c.loop-next.invariant.links;
       row = λ s.
           let s0 : Side = sweeping c.loop-next.caps c.loop-next.vpes c.loop-next.jobs c.loop-next.park c.loop-next.outs s in
-          let s3 : Side = sweeping c.close.new.caps c.close.new.vpes c.tell_up-next.new.jobs c.close.new.park c.tell_up-next.new.outs s in
+          let s3 : Side = sweeping c.leave_parent.new.caps c.close-parent.new.vpes c.tell_up-next.new.jobs c.close-parent.new.park c.tell_up-next.new.outs s in
           let out : sweeping c.loop-next.caps c.loop-next.vpes c.take.new.self c.loop-next.park c.loop-next.outs s ≡ job_removed x.id s0 =
           rw (c.in-Some-take.ensures.jobs, c.in-Some-take.ensures.next, x_id) refl in
-          let closed1 = c.close.ensures.row (with_jobs c.take.new.self.jobs c.take.new.self.next s) ∙ ap (closed_here T i x) out in
+          let s1 : Side = sweeping c.close-parent.new.caps c.close-parent.new.vpes c.take.new.self c.close-parent.new.park c.loop-next.outs s in
+          let s2 : Side = sweeping c.leave_parent.new.caps c.close-parent.new.vpes c.take.new.self c.close-parent.new.park c.leave_parent.new.outs s in
+          let swept1 : s1 ≡ woken x.waiters (swept x (job_removed x.id s0)) =
+          c.close-parent.ensures.row (with_jobs c.take.new.self.jobs c.take.new.self.next (with_outs c.loop-next.outs.boxes s))
+          ∙ ap (λ t. woken x.waiters (swept x t)) out in
+          let left : s2 ≡ parent_left T i x c.close-parent.result s1 = c.leave_parent.ensures.row
+          (with_vpes c.close-parent.new.vpes.rows (with_jobs c.take.new.self.jobs c.take.new.self.next (with_parks c.close-parent.new.park s))) in
+          let closed1 : s2 ≡ closed_here T i x (job_removed x.id s0) =
+          closed-here T i x (job_removed x.id s0) s1 s2 c.close-parent.result swept1 c.close-parent.ensures.parent left in
           let here : s3 ≡ closed T i x s0 = c.tell_up-next.ensures.row
-          (with_caps_vpes_parks_outs c.close.new.caps.caps c.close.new.vpes.rows c.close.new.park c.close.new.outs.boxes s)
+          (with_caps_vpes_parks_outs c.leave_parent.new.caps.caps c.close-parent.new.vpes.rows c.close-parent.new.park c.leave_parent.new.outs.boxes s)
           ∙ (ap (up_told up) closed1 ∙ ap (λ u. up_told u (closed_here T i x (job_removed x.id s0))) same_up) in
           finish-turn T i (length zs) (length xs) x up s0 s3 (option_and_then (job_of zs) c.tell_up-next.result) (option_and_then (job_of xs) c.loop-next.next)
           (omega (arith, less, told, taken)) (ap (option_and_then (job_of xs)) c.in-Some.is ∙ found) same_up here c.tell_up-next.ensures.next

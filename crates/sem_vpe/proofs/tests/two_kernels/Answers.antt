@@ -119,31 +119,24 @@ is_setup membership = record {
 
 pub invariant_of-result : goal.invariant_of-result
 invariant_of-result c =
-    let membership : IsMembership owners = rw (
-      c.in_ok-set-3.ensures.ok,
-      c.in_ok-set-2.ensures.ok,
-      c.in_ok-set.ensures.ok,
-      c.empty-owners.ensures.empty,
-    ) at c.in_ok-set-3.ensures.table in
+    let membership : IsMembership owners = rw c.in_ok-owners.ensures.owners at c.in_ok-owners.ensures.table in
     rw (
-      c.in_ok-set-3.ensures.ok,
-      c.in_ok-set-2.ensures.ok,
-      c.in_ok-set.ensures.ok,
-      c.empty-owners.ensures.empty,
+      c.in_ok-owners.ensures.owners,
       c.in_ok-push-3.ensures.ok,
       c.in_ok-push-2.ensures.ok,
       c.in_ok-push.ensures.ok,
       c.new-vpes.ensures,
-      c.in_ok-listed.ensures,
-      c.in_ok-listed-2.ensures,
-      c.new.ensures,
-      c.new-2.ensures,
-      c.new-3.ensures,
-      c.new-4.ensures,
+      c.in_ok-declared.ensures,
+      c.in_ok-declared-2.ensures,
+      c.in_ok-declared-3.ensures,
+      c.root.ensures,
+      c.root-2.ensures,
+      c.root-3.ensures,
+      c.root-4.ensures,
       c.in_ok-push-4.ensures.ok,
       c.new-services.ensures,
       c.key.ensures,
-      c.new-5.ensures,
-      c.new-6.ensures,
-      c.new-7.ensures,
+      c.new.ensures,
+      c.new-2.ensures,
+      c.new-3.ensures,
     ) (is_setup membership)

@@ -14,20 +14,19 @@ use Rattle.sem_kernel.specs.Handing.{HasCalled}
 use Rattle.sem_kernel.proofs.Meets.{declared-here, next-absent, own-sound}
 use Rattle.sem_kernel.proofs.stores.Stores.call.Goals as goal
 
-pub derive_call-requires-clause-declared : goal.derive_call-requires-clause-declared
-derive_call-requires-clause-declared c =
-    declared-here c.args.setup.now c.requires.can.are.setup c.args.kernel c.requires.can.are.is_one c.args.vpe c.requires.can.here
+pub derive_call-requires : goal.derive_call-requires
+derive_call-requires c =
+    let declared = declared-here c.args.setup.now c.requires.can.are.setup c.args.kernel c.requires.can.are.is_one c.args.vpe c.requires.can.here in
+    let absent = next-absent c.args.setup.now c.requires.can.are.setup c.args.kernel c.requires.can.are.is_one
+    (side_of c.args.self.now) c.requires.can.are.sound c.args.vpe in
+    search (rules, declared, absent)
 
-pub derive_call-requires-clause-free : goal.derive_call-requires-clause-free
-derive_call-requires-clause-free c = next-absent c.args.setup.now c.requires.can.are.setup c.args.kernel c.requires.can.are.is_one
-    (side_of c.args.self.now) c.requires.can.are.sound c.args.vpe
-
-pub gate_call-requires-clause-declared : goal.gate_call-requires-clause-declared
-gate_call-requires-clause-declared c = declared-here c.args.setup.now c.requires.can.are.setup c.args.kernel c.requires.can.are.is_one c.args.vpe c.requires.can.here
-
-pub gate_call-requires-clause-free : goal.gate_call-requires-clause-free
-gate_call-requires-clause-free c = next-absent c.args.setup.now c.requires.can.are.setup c.args.kernel c.requires.can.are.is_one
-    (side_of c.args.self.now) c.requires.can.are.sound c.args.vpe
+pub gate_call-requires : goal.gate_call-requires
+gate_call-requires c =
+    let declared = declared-here c.args.setup.now c.requires.can.are.setup c.args.kernel c.requires.can.are.is_one c.args.vpe c.requires.can.here in
+    let absent = next-absent c.args.setup.now c.requires.can.are.setup c.args.kernel c.requires.can.are.is_one
+    (side_of c.args.self.now) c.requires.can.are.sound c.args.vpe in
+    search (rules, declared, absent)
 
 pub obtain_call-requires : goal.obtain_call-requires
 obtain_call-requires c =

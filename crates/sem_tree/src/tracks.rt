@@ -1,5 +1,6 @@
-// The machine led through entries, with what the kernels do not tell of keys.
-use sem_kernel::{StepError, World};
+// What the kernels do not tell of keys, by the entries that lead to a world.
+use sem_check::Note;
+use sem_kernel::World;
 use sem_key::{Key, Object, OutOfMemory, same_key};
 use sem_msg::{Act, Detail, Entry, Message, Setup};
 use std::alloc::Global;
@@ -12,26 +13,37 @@ struct Flight {
     has_arrived: bool,
 }
 
-/// The world after some entries; the objects of the keys made by then, in the order in which they
-/// were made; and which keys are on their way.
+/// What entries tell of keys: the objects of the keys made by then, in the order in which they were
+/// made, and which keys are on their way.
 #[derive(Drop)]
-pub struct Walk {
-    pub world: World,
+pub struct Tracks {
     pub objects: Vec<Object>,
     flights: Vec<Flight>,
 }
 
-impl Walk {
-    /// The walk before the first entry.
-    pub fn start(alloc: Global, setup: &Setup) -> Result<Walk, OutOfMemory> {
+impl Note for Tracks {
+    fn note(
+        &mut self,
+        setup: &Setup,
+        world: &World,
+        _past: &[Entry],
+        entry: &Entry,
+    ) -> Result<(), OutOfMemory> {
+        self.note_flight(setup, world, entry)?;
+        self.note_object(world, entry)
+    }
+}
+
+impl Tracks {
+    /// Those before the first entry.
+    pub fn start(alloc: Global, setup: &Setup) -> Result<Tracks, OutOfMemory> {
         let mut objects = Vec::new(alloc);
         for decl in setup.vpes.as_slice() {
             for root in decl.roots.as_slice() {
                 objects.push(root.object)?;
             }
         }
-        Ok(Walk {
-            world: World::boot(alloc, setup)?,
+        Ok(Tracks {
             objects,
             flights: Vec::new(alloc),
         })
@@ -44,21 +56,13 @@ impl Walk {
             .any(|flight| same_key(&flight.key, &key))
     }
 
-    /// Goes through an entry, and returns whether its event makes it. If not, the walk means
-    /// nothing.
-    pub fn go_on(&mut self, setup: &Setup, entry: &Entry) -> Result<bool, OutOfMemory> {
-        match self.world.step(entry.event) {
-            Ok(made) if made == *entry => {}
-            Ok(_) | Err(StepError::NotEnabled) => return Ok(false),
-            Err(StepError::Memory) => return Err(OutOfMemory),
-        }
-        self.note_flight(setup, entry)?;
-        self.note_object(entry)?;
-        Ok(true)
-    }
-
     // Notes which key the entry sends on its way, and which it lands.
-    fn note_flight(&mut self, setup: &Setup, entry: &Entry) -> Result<(), OutOfMemory> {
+    fn note_flight(
+        &mut self,
+        setup: &Setup,
+        world: &World,
+        entry: &Entry,
+    ) -> Result<(), OutOfMemory> {
         if let Some((_, child)) = entry.grant
             && setup.kernel_of(child.vpe) != entry.event.kernel
         {
@@ -69,7 +73,7 @@ impl Walk {
             return Ok(());
         }
         match (entry.event.act, entry.detail) {
-            (Act::Handle, Detail::Carried { message, .. }) => self.note_message(&message),
+            (Act::Handle, Detail::Carried { message, .. }) => self.note_message(world, &message),
             (Act::Resume { vpe } | Act::Kill { vpe }, _) => {
                 self.flights
                     .retain(|flight| flight.key.vpe != vpe || !flight.has_arrived);
@@ -80,9 +84,9 @@ impl Walk {
     }
 
     // Notes what the handled message does to keys on their way.
-    fn note_message(&mut self, message: &Message) {
+    fn note_message(&mut self, world: &World, message: &Message) {
         match *message {
-            Message::ObtainOk { key, .. } if self.world.is_alive(key.vpe) => {
+            Message::ObtainOk { key, .. } if world.is_alive(key.vpe) => {
                 for flight in &mut self.flights {
                     if same_key(&flight.key, &key) {
                         flight.has_arrived = true;
@@ -100,11 +104,11 @@ impl Walk {
 
     // Notes the object of the key that the entry makes. The kernel of the entry holds the key, or
     // what it was made from.
-    fn note_object(&mut self, entry: &Entry) -> Result<(), OutOfMemory> {
+    fn note_object(&mut self, world: &World, entry: &Entry) -> Result<(), OutOfMemory> {
         let Some((parent, child)) = entry.grant else {
             return Ok(());
         };
-        let Some(kernel) = self.world.kernels().get(entry.event.kernel as usize) else {
+        let Some(kernel) = world.kernels().get(entry.event.kernel as usize) else {
             return Ok(());
         };
         let given = match (kernel.held(child), kernel.held(parent)) {
