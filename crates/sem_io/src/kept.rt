@@ -52,9 +52,9 @@ impl<S: Source> KeptSource<S> {
 }
 
 impl<S: Source> Source for KeptSource<S> {
-    ghost left = { λ s. S.left s.inner };
-
     ghost faults = { λ s. S.faults s.inner };
+
+    ghost left = { λ s. S.left s.inner };
 
     fn read(&mut self, buf: &mut [u8]) -> Result<usize, Failed>
         requires { 0 < length buf.old }

@@ -16,11 +16,11 @@ pub struct Failed;
 
 /// A place to read bytes from, a piece at a time.
 pub trait Source {
-    // The bytes that are left, if the source tells them.
-    ghost left: { Self → Option (List ℕ) };
-
     // How many calls have failed, up to 18446744073709551615.
     ghost faults: { Self → ℕ };
+
+    // The bytes that are left, if the source tells them.
+    ghost left: { Self → Option (List ℕ) };
 
     /// Reads the next bytes to the front of `buf`, and returns how many. `Ok(0)` is the end of the
     /// input.
@@ -78,9 +78,9 @@ impl MemSource {
 }
 
 impl Source for MemSource {
-    ghost left = { λ s. Some (drop s.at s.bytes.items) };
-
     ghost faults = { λ s. s.failed };
+
+    ghost left = { λ s. Some (drop s.at s.bytes.items) };
 
     fn read(&mut self, buf: &mut [u8]) -> Result<usize, Failed>
         requires { 0 < length buf.old }
@@ -141,9 +141,9 @@ impl<R: Read> ReadSource<R> {
 }
 
 impl<R: Read> Source for ReadSource<R> {
-    ghost left = { λ _. None };
-
     ghost faults = { λ s. s.failed };
+
+    ghost left = { λ _. None };
 
     fn read(&mut self, buf: &mut [u8]) -> Result<usize, Failed>
         requires { 0 < length buf.old }

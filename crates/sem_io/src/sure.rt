@@ -29,9 +29,9 @@ impl SureSource {
 }
 
 impl Source for SureSource {
-    ghost left = { λ s. Some (drop s.at s.bytes.items) };
-
     ghost faults = { λ _. 0 };
+
+    ghost left = { λ s. Some (drop s.at s.bytes.items) };
 
     fn read(&mut self, buf: &mut [u8]) -> Result<usize, Failed>
         requires { 0 < length buf.old }

@@ -21,6 +21,16 @@ use sem_key::{Key, Kind, Object};
 use sem_msg::{Message, Target};
 use sem_trace::{Cause, Form, MessageKind, Part, TargetKind, Words, form_named, is, node};
 
+// What the part holds. It must be a part of that kind.
+macro_rules! held {
+    ($part:ident, $kind:ident) => {
+        match $part {
+            PartValue::$kind(value) => *value,
+            _ => unreachable!(),
+        }
+    };
+}
+
 // The next word, a VPE.
 pub(crate) fn vpe(words: &mut Words<'_>, version: u8) -> Result<u16, Cause>
     ensures { ReadsVpe version words.old words.new result }
@@ -78,24 +88,24 @@ fn object_from(kind: Kind, values: &[PartValue; MOST_PARTS]) -> Object
     let [first, second, third, _] = values;
     match kind {
         Kind::Mem => Object::Mem {
-            base: first.number() as u32,
-            len: second.number() as u32,
-            rights: third.number() as u8,
+            base: held!(first, Number) as u32,
+            len: held!(second, Number) as u32,
+            rights: held!(third, Number) as u8,
         },
         Kind::Recv => Object::Recv {
-            slots: first.number() as u8,
+            slots: held!(first, Number) as u8,
         },
         Kind::Send => Object::Send {
-            gate: first.key(),
-            label: second.number() as u32,
-            credits: third.number() as u8,
+            gate: held!(first, Key),
+            label: held!(second, Number) as u32,
+            credits: held!(third, Number) as u8,
         },
         Kind::Serv => Object::Serv {
-            name: first.number() as u8,
+            name: held!(first, Number) as u8,
         },
         Kind::Sess => Object::Sess {
-            service: first.key(),
-            ident: second.number() as u16,
+            service: held!(first, Key),
+            ident: held!(second, Number) as u16,
         },
     }
 }
@@ -123,15 +133,15 @@ fn target_from(kind: TargetKind, values: &[PartValue; MOST_PARTS]) -> Target
     let [first, second, ..] = values;
     match kind {
         TargetKind::Sel => Target::Sel {
-            vpe: first.number() as u16,
-            sel: second.number() as u8,
+            vpe: held!(first, Number) as u16,
+            sel: held!(second, Number) as u8,
         },
         TargetKind::Serv => Target::Serv {
-            service: first.key(),
+            service: held!(first, Key),
         },
         TargetKind::Offer => Target::Offer {
-            service: first.key(),
-            index: second.number() as u8,
+            service: held!(first, Key),
+            index: held!(second, Number) as u8,
         },
     }
 }
@@ -219,41 +229,41 @@ fn message_from(kind: MessageKind, values: &[PartValue; MOST_PARTS]) -> Message
     let [first, second, third, fourth] = values;
     match kind {
         MessageKind::ObtainReq => Message::ObtainReq {
-            place: first.place(),
-            target: second.target(),
+            place: held!(first, Place),
+            target: held!(second, Target),
         },
         MessageKind::ObtainOk => Message::ObtainOk {
-            parent: first.key(),
-            key: second.key(),
-            object: third.object(),
+            parent: held!(first, Key),
+            key: held!(second, Key),
+            object: held!(third, Object),
         },
         MessageKind::ObtainNo => Message::ObtainNo {
-            place: first.place(),
-            code: second.number() as u8,
+            place: held!(first, Place),
+            code: held!(second, Number) as u8,
         },
         MessageKind::DelegateReq => Message::DelegateReq {
-            parent: first.key(),
-            object: second.object(),
-            vpe: third.number() as u16,
-            sel: fourth.number() as u8,
+            parent: held!(first, Key),
+            object: held!(second, Object),
+            vpe: held!(third, Number) as u16,
+            sel: held!(fourth, Number) as u8,
         },
         MessageKind::DelegateNo => Message::DelegateNo {
-            parent: first.key(),
-            code: second.number() as u8,
+            parent: held!(first, Key),
+            code: held!(second, Number) as u8,
         },
         MessageKind::Ack => Message::Ack {
-            key: first.key(),
-            yes: second.yes(),
+            key: held!(first, Key),
+            yes: held!(second, YesOrNo),
         },
         MessageKind::RevokeReq => Message::RevokeReq {
-            key: first.key(),
-            job: second.number() as u32,
+            key: held!(first, Key),
+            job: held!(second, Number) as u32,
         },
         MessageKind::RevokeDone => Message::RevokeDone {
-            job: first.number() as u32,
+            job: held!(first, Number) as u32,
         },
         MessageKind::DelegatePrepared | MessageKind::Orphan | MessageKind::Unlink => {
-            of_two_keys(kind, first.key(), second.key())
+            of_two_keys(kind, held!(first, Key), held!(second, Key))
         }
     }
 }

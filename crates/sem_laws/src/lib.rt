@@ -41,6 +41,15 @@ pub fn costs_bounded()
     sem_bound::bounds::costs_bounded();
 }
 
+/// A journal is a schedule exactly if the part of each kernel is a local run and the parts agree.
+/// The parts of a schedule tell the world after it.
+pub fn schedules_are_parts()
+    ensures law { ForEveryJournal IsScheduleByParts }
+    ensures world { ForEverySchedule IsToldByParts }
+{
+    sem_parts::parts::schedules_are_parts();
+}
+
 /// The messages are counted. If a schedule leaves an idle world, as many replies were sent as
 /// requests, kind by kind. The number of all messages is then two for each exchange and each
 /// request to revoke, one more for each prepared delegate, and one for each notice. No more
@@ -53,15 +62,6 @@ pub fn messages_counted()
     sem_messages::laws::grants_are_told();
     sem_messages::laws::messages_are_counted();
     sem_messages::laws::revokes_follow_grants();
-}
-
-/// A journal is a schedule exactly if the part of each kernel is a local run and the parts agree.
-/// The parts of a schedule tell the world after it.
-pub fn schedules_are_parts()
-    ensures law { ForEveryJournal IsScheduleByParts }
-    ensures world { ForEverySchedule IsToldByParts }
-{
-    sem_parts::parts::schedules_are_parts();
 }
 
 /// Every read and write that succeeds touches only memory that its VPE was granted.

@@ -1,45 +1,45 @@
 ghost use Rattle.std.specs.Prelude.{◌≡◌};
 ghost use Rattle.sem_msg.specs.Codes.{code_number};
 
-/// How a call is answered.
+/// How a call is answered, with the number of each answer in a reply or a message.
 #[derive(Clone, Copy, Debug, PartialEq, Eq)]
 pub enum Code {
     /// The call succeeded.
-    Ok,
+    Ok = 0,
     /// No such VPE is declared.
-    NoVpe,
+    NoVpe = 1,
     /// The other VPE is dead.
-    Dead,
+    Dead = 2,
     /// The selector holds no capability.
-    NoCap,
+    NoCap = 3,
     /// The capability is being revoked.
-    Revoking,
+    Revoking = 4,
     /// The other VPE denies.
-    Refused,
+    Refused = 5,
     /// The destination is held or promised.
-    Occupied,
+    Occupied = 6,
     /// The VPE has drawn all its numbers.
-    Numbers,
+    Numbers = 7,
     /// The capability is of the wrong kind.
-    BadKind,
+    BadKind = 8,
     /// The call asks for more than the capability gives.
-    Wider,
+    Wider = 9,
     /// No such service is declared.
-    NoService,
+    NoService = 10,
     /// The capability is gone.
-    Gone,
+    Gone = 11,
     /// The endpoint is not bound.
-    Unbound,
+    Unbound = 12,
     /// The endpoint does not allow it.
-    Rights,
+    Rights = 13,
     /// It is out of the range of the endpoint.
-    Range,
+    Range = 14,
     /// The other VPE is the caller itself.
-    SelfExchange,
+    SelfExchange = 15,
 }
 
 impl Code {
-    /// The number of the code in a reply or a message, 0 to 15 in the order of `Code`.
+    /// The number of the code in a reply or a message, 0 to 15.
     pub fn number(self) -> u8
         ensures { result ≡ code_number self }
     {

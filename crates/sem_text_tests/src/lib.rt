@@ -13,8 +13,6 @@ mod file_commands;
 #[cfg(test)]
 mod long_reports;
 #[cfg(test)]
-mod message_records;
-#[cfg(test)]
 mod records;
 #[cfg(test)]
 mod reports;
@@ -22,5 +20,3 @@ mod reports;
 mod traces;
 #[cfg(test)]
 mod words_of_lines;
-#[cfg(test)]
-mod wrong_records;

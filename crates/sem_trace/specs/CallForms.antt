@@ -14,26 +14,26 @@ use Rattle.sem_trace.specs.declared.call_forms.CallKind.TheVariants.{Exit as Exi
 use Rattle.sem_trace.specs.Forms.{Place, calls}
 use Rattle.sem_trace.specs.Slots.{form_of}
 
--- which row of the calls is that of the kind
-abbrev pub kind_row : CallKind → ℕ
-kind_row Derives = 0
-kind_row Gates = 1
-kind_row Obtains = 2
-kind_row Delegates = 3
-kind_row Opens = 4
-kind_row Asks = 5
-kind_row Revokes = 6
-kind_row Binds = 7
-kind_row Reads = 8
-kind_row Writes = 9
-kind_row Sends = 10
-kind_row Credits = 11
-kind_row Exits = 12
-kind_row Clears = 13
+-- a row of the calls, counted from 0: a name and the places behind it
+abbrev pub spelling_at : (version i : ℕ) → List ℕ × List Place
+spelling_at version i = slice_index_or (calls version) i ([], [])
 
 -- the name and the places of the calls of a kind
 abbrev pub call_spelling : ℕ → CallKind → List ℕ × List Place
-call_spelling version kind = slice_index_or (calls version) (kind_row kind) ([], [])
+call_spelling version Derives = spelling_at version 0
+call_spelling version Gates = spelling_at version 1
+call_spelling version Obtains = spelling_at version 2
+call_spelling version Delegates = spelling_at version 3
+call_spelling version Opens = spelling_at version 4
+call_spelling version Asks = spelling_at version 5
+call_spelling version Revokes = spelling_at version 6
+call_spelling version Binds = spelling_at version 7
+call_spelling version Reads = spelling_at version 8
+call_spelling version Writes = spelling_at version 9
+call_spelling version Sends = spelling_at version 10
+call_spelling version Credits = spelling_at version 11
+call_spelling version Exits = spelling_at version 12
+call_spelling version Clears = spelling_at version 13
 
 -- it tells the name and the places of its kind
 abbrev pub IsRow : CallForm → Type 0

@@ -7,6 +7,14 @@ ghost use Rattle.sem_trace.specs.CallForms.{IsRow};
 
 use crate::slots::Slot;
 
+/// How a call is written: its name, and behind it the numbers of these slots.
+#[derive(Clone, Copy, Debug)]
+pub struct CallForm {
+    pub name: &'static [u8],
+    pub kind: CallKind,
+    pub slots: &'static [Slot],
+}
+
 /// What a call does.
 #[derive(Clone, Copy, Debug, PartialEq, Eq)]
 pub enum CallKind {
@@ -24,14 +32,6 @@ pub enum CallKind {
     Credit,
     Exit,
     Clear,
-}
-
-/// How a call is written: its name, and behind it the numbers of these slots.
-#[derive(Clone, Copy, Debug)]
-pub struct CallForm {
-    pub name: &'static [u8],
-    pub kind: CallKind,
-    pub slots: &'static [Slot],
 }
 
 // The form of a name, a kind and the slots behind the name.

@@ -1,5 +1,6 @@
-// The folders of cases, and the files of each case.
+// The folders of cases, the files of each case, and the tables of records.
 use crate::cases::{Case, passes};
+use crate::records::count_records;
 use crate::waits::waits_so;
 use std::{fs, io};
 
@@ -14,8 +15,7 @@ pub fn try_folders(rt: &HostRuntime) -> io::Result<u64> {
 
 // Tries each case of the folder, and prints how many passed. Returns how many differ.
 fn try_folder(rt: &HostRuntime, folder: &str) -> io::Result<u64> {
-    let mut passed = 0u64;
-    let mut differ = 0u64;
+    let (mut passed, mut differ) = try_tables(rt, folder)?;
     for name in &names(rt, folder, ".words")? {
         let path = format!(in rt.alloc(); "{folder}/{name}")?;
         if try_case(rt, path.as_str())? {
@@ -27,6 +27,19 @@ fn try_folder(rt: &HostRuntime, folder: &str) -> io::Result<u64> {
     }
     println!(rt; "{folder}: {passed} passed, {differ} differ")?;
     Ok(differ)
+}
+
+// Tries each record of the folder's tables. Returns how many passed, and how many differ.
+fn try_tables(rt: &HostRuntime, folder: &str) -> io::Result<(u64, u64)> {
+    let mut passed = 0u64;
+    let mut differ = 0u64;
+    for name in &names(rt, folder, ".records")? {
+        let path = format!(in rt.alloc(); "{folder}/{name}.records")?;
+        let found = count_records(rt.alloc(), &fs::read(rt, path.as_str())?)?;
+        passed = passed.saturating_add(found.0);
+        differ = differ.saturating_add(found.1);
+    }
+    Ok((passed, differ))
 }
 
 // Whether the case of that path passes. The path comes without the endings of the case's files.

@@ -5,6 +5,7 @@
 
 mod cases;
 mod folders;
+mod records;
 mod waits;
 
 use crate::folders::try_folders;
