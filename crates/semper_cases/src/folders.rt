@@ -29,13 +29,17 @@ fn try_folder(rt: &HostRuntime, folder: &str) -> io::Result<u64> {
     Ok(differ)
 }
 
-// Tries each record of the folder's tables. Returns how many passed, and how many differ.
+// Tries each record of the folder's tables, and names the tables of those that differ. Returns how
+// many passed, and how many differ.
 fn try_tables(rt: &HostRuntime, folder: &str) -> io::Result<(u64, u64)> {
     let mut passed = 0u64;
     let mut differ = 0u64;
     for name in &names(rt, folder, ".records")? {
         let path = format!(in rt.alloc(); "{folder}/{name}.records")?;
         let found = count_records(rt.alloc(), &fs::read(rt, path.as_str())?)?;
+        if found.1 > 0 {
+            println!(rt; "{path} differs")?;
+        }
         passed = passed.saturating_add(found.0);
         differ = differ.saturating_add(found.1);
     }
