@@ -1,6 +1,6 @@
 //! Runs the cases in the folders below the current one, and prints folder by folder how many
-//! passed. It names every case that differs, and every table with a record that does. Ends with 0 if
-//! all passed, with 1 if one differs, and with 3 if a file cannot be read.
+//! passed. It names every case that differs, and every table with a record that does. Ends with 0
+//! if all passed, with 1 if one differs, and with 3 if a file cannot be read.
 #![tactic(auto)]
 
 mod cases;
